@@ -10,6 +10,8 @@ Each server has four workers more than writers, or the number that `--workers` g
 import random
 import statistics
 import tempfile
+from collections.abc import Iterator
+from typing import NamedTuple
 
 from results import Record, asked_of
 from serve import Bench
@@ -17,34 +19,47 @@ from servers import rust_program
 
 HELD = 1000
 DRAWS = 2000
+COLUMNS = ["writers", "old", "new", "times as many", "times as many, least", "times as many, most", "for a second of a processor",
+           "for a second of a processor, least", "for a second of a processor, most"]
 
 
-def within(ratios):
-    """The median, and the ends of its interval."""
+class Interval(NamedTuple):
+    """A median, and the interval in which it lies."""
+    median: float
+    least: float
+    most: float
+
+    def __str__(self) -> str:
+        return f"{self.median:.2f} ({self.least:.2f} to {self.most:.2f})"
+
+
+def within(ratios: list[float]) -> Interval:
+    """Returns the median, and the ends of its interval."""
     draw = random.Random(1)
     medians = sorted(statistics.median(draw.choices(ratios, k=len(ratios))) for _ in range(DRAWS))
-    return [round(it, 2) for it in (statistics.median(ratios), medians[DRAWS // 40], medians[-DRAWS // 40])]
+    return Interval(*(round(it, 2) for it in (statistics.median(ratios), medians[DRAWS // 40], medians[-DRAWS // 40])))
 
 
-def pairs(bench, writers, count):
-    """The numbers of both builds, each pair in the other order than the one before it."""
+def pairs(bench: Bench, writers: int, count: int) -> Iterator[dict[str, dict[str, float]]]:
+    """Yields the numbers of both builds, each pair in the other order than the one before it."""
     for number in range(count):
         order = ("old", "new") if number % 2 == 0 else ("new", "old")
         yield {name: bench.measure(name, HELD, writers) for name in order}
 
 
-def compare(bench, writers, count, record):
+def compare(bench: Bench, writers: int, count: int, record: Record) -> None:
+    """Measures both builds with this number of writers, prints the row and records it."""
     found = [pair for pair in pairs(bench, writers, count) if all(pair.values())]
     rates = {name: statistics.median(pair[name]["rate"] for pair in found) for name in ("old", "new")}
     faster = within([pair["new"]["rate"] / pair["old"]["rate"] for pair in found])
     thriftier = within([pair["old"]["processor"] / pair["new"]["processor"] for pair in found])
-    told = ["{:.2f} ({:.2f} to {:.2f})".format(*it) for it in (faster, thriftier)]
-    print(f"{writers} writers: {rates['old']:,.0f} and {rates['new']:,.0f} spans a second, {told[0]} times as many; for a second of a processor "
-          f"{told[1]}; {len(found)} pairs", flush=True)
+    print(f"{writers} writers: {rates['old']:,.0f} and {rates['new']:,.0f} spans a second, {faster} times as many; for a second of a processor "
+          f"{thriftier}; {len(found)} pairs", flush=True)
     record.row(writers, round(rates["old"]), round(rates["new"]), *faster, *thriftier)
 
 
-def main():
+def main() -> None:
+    """Measures both builds and prints a row for each number of writers."""
     asked = asked_of(__doc__, None)
     asked.add_argument("old", help="a program")
     asked.add_argument("new", help="a program")
@@ -53,8 +68,7 @@ def main():
     asked.add_argument("--seconds", type=float, default=0.6, help="of each measurement")
     asked.add_argument("--workers", type=int, help="of each server")
     options = asked.parse_args()
-    columns = ["writers", "old", "new", "times as many", "least", "most", "for a second of a processor", "least", "most"]
-    record = Record(options, "builds", columns, builds=f"old {options.old}, new {options.new}")
+    record = Record(options, "builds", COLUMNS, builds=f"old {options.old}, new {options.new}")
     with tempfile.TemporaryDirectory() as folder:
         bench = Bench({"old": options.old, "new": options.new}, rust_program(folder, "bench/load.rs"), options.seconds, 1)
         bench.end = float("inf")

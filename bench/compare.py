@@ -18,12 +18,15 @@ Each decodes all batches once, and once more as often as asked; the difference o
 the best of three, is the time of the decoding alone. With --count the instructions of two rounds are counted by callgrind
 (Debian: valgrind), which reports the same on a busy machine.
 """
+import argparse
 import os
 import random
 import resource
 import struct
 import subprocess
 import tempfile
+from collections.abc import Callable, Iterator
+from typing import NamedTuple
 
 import copies
 import decode as batches
@@ -91,15 +94,18 @@ fn main(rt: HostRuntime) -> Result<()> {
 """
 
 
-def build_rattle(folder, options):
+def build_rattle(folder: str, options: argparse.Namespace) -> str:
+    """Returns the program over `decode` and the Feeder."""
     return copies.built(options, folder, "decode_rounds", DEPS, {"src/main.rt": MAIN})
 
 
-def build_rust(folder, _):
+def build_rust(folder: str, _: argparse.Namespace) -> str:
+    """Returns the program in plain Rust."""
     return rust_program(folder, "bench/compare/plain.rs", FASTEST)
 
 
-def build_apache(folder, _):
+def build_apache(folder: str, _: argparse.Namespace) -> str:
+    """Returns the program over Apache Thrift."""
     made = os.path.join(folder, "made")
     os.makedirs(made)
     subprocess.run(["thrift", "--gen", "cpp:moveable_types,no_skeleton,templates", "-out", made,
@@ -110,31 +116,89 @@ def build_apache(folder, _):
     return program
 
 
-# Each row: its name, the program and the way of reading a body.
-PROGRAMS = (
-    ("rattle", build_rattle),
-    ("pieces", build_rattle, "pieces"),
-    ("bytes", build_rattle, "1"),
-    ("rust", build_rust),
-    ("apache", build_apache),
+class Decoder(NamedTuple):
+    """A decoder: its name, what builds its program, and the words for the way of reading a body."""
+    name: str
+    build: Callable[[str, argparse.Namespace], str]
+    way: list[str] = []
+
+
+class Run(NamedTuple):
+    """A run of a decoder: the seconds of a processor, and the number of spans that it printed."""
+    seconds: float
+    spans: int
+
+
+DECODERS = (
+    Decoder("rattle", build_rattle),
+    Decoder("pieces", build_rattle, ["pieces"]),
+    Decoder("bytes", build_rattle, ["1"]),
+    Decoder("rust", build_rust),
+    Decoder("apache", build_apache),
 )
 
 
-def seconds(program, rounds, path, way):
-    """Processor time of one run in user mode, and what it printed."""
+def seconds(program: str, rounds: int, path: str, way: list[str]) -> Run:
+    """Runs a program, and returns its processor time in user mode and what it printed."""
     before = resource.getrusage(resource.RUSAGE_CHILDREN).ru_utime
     with open(path, "rb") as stdin:
         run = subprocess.run([program, str(rounds), *way], stdin=stdin, capture_output=True, check=True)
-    return resource.getrusage(resource.RUSAGE_CHILDREN).ru_utime - before, int(run.stdout)
+    return Run(resource.getrusage(resource.RUSAGE_CHILDREN).ru_utime - before, int(run.stdout))
 
 
-def instructions(program, rounds, path, way):
-    """The instructions of one run."""
+def instructions(program: str, rounds: int, path: str, way: list[str]) -> int:
+    """Returns the instructions of one run."""
     with open(path, "rb") as stdin:
         return batches.counted([program, str(rounds), *way], stdin)
 
 
-def main():
+def built(folder: str, options: argparse.Namespace) -> Iterator[tuple[Decoder, str]]:
+    """Yields each decoder that was asked for with its program, and prints which are left out. A program of several is built once."""
+    programs: dict[Callable[[str, argparse.Namespace], str], str] = {}
+    for it in DECODERS:
+        if options.only not in it.name:
+            continue
+        try:
+            program = programs.get(it.build) or it.build(folder, options)
+        except (FileNotFoundError, subprocess.CalledProcessError) as fault:
+            print(f"{it.name:8} left out: {fault}")
+            continue
+        programs[it.build] = program
+        yield it, program
+
+
+class Bodies(NamedTuple):
+    """The file of the bodies, the bytes of all, and how often they are decoded."""
+    path: str
+    size: int
+    rounds: int
+
+
+def count(decoder: Decoder, program: str, bodies: Bodies, record: Record) -> None:
+    """Counts the instructions of a decoder, and prints and records its row."""
+    more = instructions(program, 3, bodies.path, decoder.way) - instructions(program, 1, bodies.path, decoder.way)
+    a_byte = more / 2 / bodies.size
+    print(f"{decoder.name:8} {a_byte:20.1f}")
+    record.row(decoder.name, round(a_byte, 1))
+
+
+def time(decoder: Decoder, program: str, bodies: Bodies, record: Record) -> int:
+    """Times a decoder, prints and records its row, and returns the number of spans that it found."""
+    times, found = [], set()
+    for _ in range(3):
+        once = seconds(program, 1, bodies.path, decoder.way)
+        often = seconds(program, 1 + bodies.rounds, bodies.path, decoder.way)
+        times.append(often.seconds - once.seconds)
+        found.add(once.spans)
+    assert len(found) == 1, (decoder.name, found)
+    size = bodies.rounds * bodies.size / 1_000_000
+    print(f"{decoder.name:8} {min(times):8.3f} {size / min(times):8.1f}")
+    record.row(decoder.name, round(size / min(times)))
+    return found.pop()
+
+
+def main() -> None:
+    """Prints a row for each decoder."""
     asked = asked_of(__doc__, None)
     asked.add_argument("--bin", help="a program over decode that was built by this script")
     asked.add_argument("--folder", help="where that program is built, and stays")
@@ -144,40 +208,20 @@ def main():
     options = asked.parse_args()
     rng = random.Random(1)
     pool = [batches.batch(rng) for _ in range(400)]
-    spans = None
     columns = ["decoder", "instructions a byte" if options.count else "megabytes a second"]
     record = Record(options, "compare --count" if options.count else "compare", columns, peers=f"{compiler('rustc')} {FASTEST}; {compiler('g++')} -O2")
     print(f"{'':8} {'instructions a byte':>20}" if options.count else f"{'':8} {'seconds':>8} {'MB/s':>8}")
     with tempfile.TemporaryDirectory() as folder:
-        path = os.path.join(folder, "bodies")
-        with open(path, "wb") as file:
+        bodies = Bodies(os.path.join(folder, "bodies"), sum(map(len, pool)), options.rounds)
+        with open(bodies.path, "wb") as file:
             file.writelines(struct.pack(">I", len(body)) + body for body in pool)
-        size = options.rounds * sum(map(len, pool)) / 1_000_000
-        built = {}
-        for name, build, *way in PROGRAMS:
-            if options.only not in name:
-                continue
-            try:
-                program = built.get(build) or build(folder, options)
-            except (FileNotFoundError, subprocess.CalledProcessError) as fault:
-                print(f"{name:8} left out: {fault}")
-                continue
-            built[build] = program
+        spans = {}
+        for decoder, program in built(folder, options):
             if options.count:
-                more = instructions(program, 3, path, way) - instructions(program, 1, path, way)
-                a_byte = more / 2 / sum(map(len, pool))
-                print(f"{name:8} {a_byte:20.1f}")
-                record.row(name, round(a_byte, 1))
-                continue
-            times = []
-            for _ in range(3):
-                once, count = seconds(program, 1, path, way)
-                often, _ = seconds(program, 1 + options.rounds, path, way)
-                times.append(often - once)
-                assert spans in (None, count), (name, spans, count)
-                spans = count
-            print(f"{name:8} {min(times):8.3f} {size / min(times):8.1f}")
-            record.row(name, round(size / min(times)))
+                count(decoder, program, bodies, record)
+            else:
+                spans[decoder.name] = time(decoder, program, bodies, record)
+                assert len(set(spans.values())) == 1, spans
     if not options.only:
         record.save()
 

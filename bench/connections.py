@@ -15,12 +15,15 @@
 Times are those of a client in Python on the same machine, so they include its own work. A figure of one run. Rows are kept only of a run
 of all parts.
 """
+import argparse
 import collections
 import resource
 import selectors
 import statistics
 import sys
 import time
+from collections.abc import Callable
+from typing import NamedTuple
 
 from results import Record, asked_of
 from servers import Client, Failed, Server, batch, check, get, head, post, post_body
@@ -31,66 +34,79 @@ IDLE = "s of a processor in ten"
 ALL = "/api/traces?service=shop&limit=0"
 
 
+class Percentiles(NamedTuple):
+    """The middle of some times and the one that 99 in 100 don't exceed, in milliseconds."""
+    p50: float
+    p99: float
+
+
 class Rows:
     """What is kept: times, and what is held."""
 
-    def __init__(self, options):
+    def __init__(self, options: argparse.Namespace) -> None:
         self.times = Record(options, "connections", ["part", "what", "least", "most"])
         self.held = Record(options, "connections, memory", ["part", "connections", "what", "least", "most"])
 
-    def time(self, part, what, value):
+    def time(self, part: str, what: str, value: float) -> None:
+        """Keeps a time."""
         value = round(value, 2)
         self.times.row(part, what, value, value)
 
-    def looks(self, part, what, times):
-        for name, value in zip(("p50", "p99"), percentiles(times)):
+    def looks(self, part: str, what: str, times: list[float]) -> None:
+        """Keeps p50 and p99 of some times."""
+        for name, value in percentiles(times)._asdict().items():
             self.time(part, f"{what} {name}, ms", value)
 
-    def hold(self, part, count, what, value):
+    def hold(self, part: str, count: int, what: str, value: float) -> None:
+        """Keeps what this number of connections holds."""
         self.held.row(part, count, what, value, value)
 
-    def save(self):
+    def save(self) -> None:
+        """Keeps the rows, if the script was asked to."""
         self.times.save()
         self.held.save()
 
 
-def started(program, connections, *more):
-    """A server of four workers that allows this number of open connections."""
+def started(program: str, connections: int, *more: object) -> Server:
+    """Starts a server of four workers that allows this number of open connections."""
     return Server("--workers", 4, "--connections", connections, *ROOM, *more, binary=program)
 
 
-def ten_spans(trace):
+def ten_spans(trace: int) -> bytes:
+    """Returns a request that posts ten spans of a trace."""
     return post_body(wire.batch("shop", [wire.span(trace, number, operation="op") for number in range(1, 11)]))
 
 
-def percentiles(times):
-    """p50 and p99, in milliseconds."""
+def percentiles(times: list[float]) -> Percentiles:
+    """Returns p50 and p99 of some times."""
     ordered = sorted(times)
-    return 1000 * statistics.median(ordered), 1000 * ordered[min(len(ordered) - 1, len(ordered) * 99 // 100)]
+    return Percentiles(1000 * statistics.median(ordered), 1000 * ordered[min(len(ordered) - 1, len(ordered) * 99 // 100)])
 
 
-def said(times):
-    middle, late = percentiles(times)
-    return f"p50 {middle:.2f} ms, p99 {late:.2f} ms of {len(times)}"
+def said(times: list[float]) -> str:
+    """Returns p50 and p99 as text."""
+    it = percentiles(times)
+    return f"p50 {it.p50:.2f} ms, p99 {it.p99:.2f} ms of {len(times)}"
 
 
 class Senders:
     """Clients that post once a second each, spread over the second."""
 
-    def __init__(self, port, count):
+    def __init__(self, port: int, count: int) -> None:
         self.clients = [Client(port) for _ in range(count)]
         self.selector = selectors.DefaultSelector()
-        self.sent = [collections.deque() for _ in range(count)]
-        self.times = []
+        self.sent: list[collections.deque[float]] = [collections.deque() for _ in range(count)]
+        self.times: list[float] = []
         self.refused = 0
         for number, client in enumerate(self.clients):
             self.selector.register(client.socket, selectors.EVENT_READ, number)
 
-    def post(self, number, trace):
+    def post(self, number: int, trace: int) -> None:
+        """Posts a trace by the client with this number."""
         self.sent[number].append(time.perf_counter())
         self.clients[number].send(ten_spans(trace))
 
-    def take(self, number):
+    def take(self, number: int) -> None:
         """Takes the responses that have come to a client."""
         client = self.clients[number]
         while True:
@@ -100,7 +116,7 @@ class Senders:
             if not client.input:
                 return
 
-    def hear(self, seconds):
+    def hear(self, seconds: float) -> None:
         """Takes in what is answered for so long."""
         end = time.perf_counter() + seconds
         while True:
@@ -109,7 +125,8 @@ class Senders:
             if time.perf_counter() >= end:
                 return
 
-    def run(self, seconds):
+    def run(self, seconds: float) -> None:
+        """Posts for so long, and waits for the last responses."""
         count, begin, trace = len(self.clients), time.perf_counter(), 0
         while time.perf_counter() - begin < seconds:
             self.post(trace % count, trace + 1)
@@ -119,15 +136,18 @@ class Senders:
         while self.unanswered() and time.perf_counter() < end:
             self.hear(0.1)
 
-    def unanswered(self):
+    def unanswered(self) -> int:
+        """Returns the number of POSTs without a response."""
         return sum(map(len, self.sent))
 
-    def close(self):
+    def close(self) -> None:
+        """Closes all connections."""
         for client in self.clients:
             client.socket.close()
 
 
-def senders(options, rows):
+def senders(options: argparse.Namespace, rows: Rows) -> str:
+    """Measures senders that stay connected."""
     with started(options.bin, options.senders) as server:
         work = Senders(server.port, options.senders)
         begin = server.processor()
@@ -140,8 +160,8 @@ def senders(options, rows):
         return f"{len(work.times)} POSTs answered 202; {said(work.times)}; {1e6 * took / len(work.times):.0f} us of a processor each"
 
 
-def resting(rows, part, server, clients, before):
-    """What connections cost that do nothing, once all of them are open."""
+def resting(rows: Rows, part: str, server: Server, clients: list[Client], before: int) -> str:
+    """Measures connections that do nothing, once all of them are open."""
     time.sleep(1)
     count, held = len(clients), server.memory() - before
     took = server.share(10) * 10
@@ -151,7 +171,8 @@ def resting(rows, part, server, clients, before):
     return f"{held / 1000:.1f} MB for {count} connections, {1000 * held / count:.0f} bytes each; {took:.2f} s of a processor in ten"
 
 
-def silent(options, rows):
+def silent(options: argparse.Namespace, rows: Rows) -> str:
+    """Measures clients that send nothing."""
     with started(options.bin, options.silent + 10) as server:
         before = server.memory()
         clients = [Client(server.port) for _ in range(options.silent)]
@@ -159,7 +180,8 @@ def silent(options, rows):
         return resting(rows, "silent", server, clients, before)
 
 
-def parked_clients(options, rows, count):
+def parked_clients(options: argparse.Namespace, rows: Rows, count: int) -> str:
+    """Measures this number of clients that asked once."""
     with started(options.bin, count) as server:
         with server.client() as client:
             for trace in range(1, 2 * count):
@@ -171,12 +193,13 @@ def parked_clients(options, rows, count):
         return resting(rows, "parked", server, clients, before)
 
 
-def parked(options, rows):
+def parked(options: argparse.Namespace, rows: Rows) -> str:
+    """Measures clients that asked once, and then five times as many."""
     return "; ".join(parked_clients(options, rows, count) for count in (options.senders, 5 * options.senders))
 
 
-def full(options, rows):
-    """Ten connections are open, and five more wait."""
+def full(options: argparse.Namespace, rows: Rows) -> str:
+    """Measures a server with ten connections open, for which five more wait."""
     with started(options.bin, 10) as server:
         clients = [Client(server.port) for _ in range(15)]
         for client in clients[:10]:
@@ -188,8 +211,8 @@ def full(options, rows):
         return f"{took:.2f} s of a processor in ten"
 
 
-def looks(server, count=2000):
-    """How long a trace by its id takes, again and again."""
+def looks(server: Server, count: int = 2000) -> list[float]:
+    """Returns how long a trace by its id takes, each time."""
     times = []
     with server.client() as client:
         for _ in range(count):
@@ -199,14 +222,16 @@ def looks(server, count=2000):
     return times
 
 
-def beside(rows, part, server, alone, slow):
+def beside(rows: Rows, part: str, server: Server, alone: list[float], slow: list[Client]) -> str:
+    """Measures a trace by its id beside slow clients."""
     times = looks(server)
     rows.looks(part, "a trace", times)
     rows.looks(part, "alone", alone)
     return f"beside {len(slow)} {part} {said(times)}; alone {said(alone)}"
 
 
-def slow_senders(options, rows):
+def slow_senders(options: argparse.Namespace, rows: Rows) -> str:
+    """Measures a trace by its id beside clients that stop inside a body."""
     with started(options.bin, options.slow + 10, "--idle", 0) as server:
         with server.client() as client:
             client.ask(ten_spans(1), 202)
@@ -220,7 +245,8 @@ def slow_senders(options, rows):
         return beside(rows, "slow senders", server, alone, slow)
 
 
-def slow_readers(options, rows):
+def slow_readers(options: argparse.Namespace, rows: Rows) -> str:
+    """Measures a trace by its id beside clients that don't read, and the memory of their answers."""
     with started(options.bin, options.slow + 10, "--idle", 0) as server:
         with server.client() as client:
             for trace in range(1, 3001):
@@ -240,7 +266,7 @@ def slow_readers(options, rows):
         return f"{beside(rows, 'slow readers', server, alone, slow)}; {held / 1000:.1f} MB, {a_span:.0f} bytes a span of an answer, of {text:.0f} of its text"
 
 
-PARTS = {
+PARTS: dict[str, Callable[[argparse.Namespace, Rows], str]] = {
     "senders": senders,
     "silent": silent,
     "parked": parked,
@@ -250,7 +276,8 @@ PARTS = {
 }
 
 
-def main():
+def main() -> None:
+    """Prints a line for each part; ends with status 1 if one failed."""
     asked = asked_of(__doc__)
     asked.add_argument("--senders", type=int, default=1000, help="connections of `senders` and of `parked`")
     asked.add_argument("--silent", type=int, default=10000, help="connections of `silent`")

@@ -1,5 +1,5 @@
 #!/usr/bin/env python3
-"""What two copies of the store cost beside the store of one thread, in one run on one machine; bench/figures.md says how.
+"""What two copies of the store cost beside the store of one thread, in one run on one machine.
 
     bench/copies.py [--bin PATH | --folder PATH] [--sizes 1000,10000,100000] [--timed 100] [--rounds 9] [--spread] [--save KIND]
 
@@ -10,11 +10,16 @@ Each row is a process of its own, one after the other:
   two copies, 3 readers  the same while three threads read, each by its own `Pass::read`, as fast as they can
   3 readers, no writer   three threads read for 20 ms, and nobody writes
 
+Batches of 10 spans are admitted until that many spans are held, then those that are timed, one after the other, and traces are read by the ids of
+held ones. A timed batch is decoded just before, as a server decodes a batch before it submits it. For the two copies an entry's outline and the kinds
+of its first spans are found then too, as a worker finds them; the store of one thread finds them within its time.
+
 Each call is timed in the program, by the machine's monotonic clock; a read's time does not have the letting go of its answer.
 `admits/s` is the number of timed batches by the sum of their times, and `of one` its ratio to that of one thread in the same
 round. `reads/s` is of all reading threads together, and has the letting go of the answers. Each figure is the median of the
 rounds' own figures; with `--spread` the minimum and the maximum of the rounds follow.
 """
+import argparse
 import os
 import random
 import shutil
@@ -23,6 +28,7 @@ import struct
 import subprocess
 import sys
 import tempfile
+from typing import NamedTuple
 
 from decode import SERVICES, span
 from results import Record, asked_of
@@ -479,7 +485,7 @@ ghosts-timed_named g a = record { book = a.name.seen.book; limits = a.limits }
 DEPS = "read_side sent_batches arrival_journal span_store batch_codec jaeger_model trace_model anyhow left_right crossbeam_utils atomic_table logbook"
 
 
-def build(top, name, deps, files):
+def build(top: str, name: str, deps: str, files: dict[str, str]) -> str:
     """Proves and builds a program of these sources in a copy, below this folder, of the crates that it uses."""
     uses = lists()
     used = below(deps.split(), uses)
@@ -501,65 +507,93 @@ def build(top, name, deps, files):
     return os.path.join(home, "out", name)
 
 
-def built(options, folder, name, deps, files):
-    """The program that `--bin` names, or else one that is built where `--folder` says, or in this folder."""
+def built(options: argparse.Namespace, folder: str, name: str, deps: str, files: dict[str, str]) -> str:
+    """Returns the program that `--bin` names, or else one that is built where `--folder` says, or in this folder."""
     return options.bin or build(os.path.abspath(options.folder or os.path.join(folder, "repository")), name, deps, files)
 
 
-def batch(rng, trace):
-    """Spans of one trace, each the parent of the next."""
+def batch(rng: random.Random, trace: int) -> bytes:
+    """Returns spans of one trace, each the parent of the next."""
     spans = [span(rng, trace, n, n - 1) for n in range(1, IN_BATCH + 1)]
     return wire.batch(rng.choice(SERVICES), spans)
 
 
-def share(times, part):
-    """The time that this part of the calls did not exceed, in microseconds."""
+def share(times: list[int], part: float) -> float:
+    """Returns the time that this part of the calls did not exceed, in microseconds."""
     ordered = sorted(times)
     return ordered[min(len(ordered) - 1, int(part * len(ordered)))] / 1e3
 
 
-def measure(program, kind, timed, path):
-    """One process: its figures by their names."""
+class Reader(NamedTuple):
+    """A reading thread: the nanoseconds that it took, and those of each of its reads."""
+    took: int
+    reads: list[int]
+
+
+def measure(program: str, kind: str, timed: int, path: str) -> dict[str, float]:
+    """Runs one process, and returns its figures by their names."""
     with open(path, "rb") as stdin:
         run = subprocess.run([program, kind, str(timed)], stdin=stdin, capture_output=True, text=True, check=True)
-    admits, readers = [], []
+    admits: list[int] = []
+    readers: list[Reader] = []
     for line in run.stdout.splitlines():
         word, took = line.split()
         if word == "admit":
             admits.append(int(took))
         elif word == "reader":
-            readers.append((int(took), []))
+            readers.append(Reader(int(took), []))
         else:
-            readers[-1][1].append(int(took))
+            readers[-1].reads.append(int(took))
     figures = {}
     if admits:
         figures["admits/s"] = len(admits) / sum(admits) * 1e9
         figures["admit p50"], figures["admit p99"] = share(admits, 0.5), share(admits, 0.99)
-    reads = [took for _, each in readers for took in each]
+    reads = [took for it in readers for took in it.reads]
     if reads:
-        figures["reads/s"] = sum(len(each) / took * 1e9 for took, each in readers if each)
+        figures["reads/s"] = sum(len(it.reads) / it.took * 1e9 for it in readers if it.reads)
         figures["read p50"], figures["read p99"] = share(reads, 0.5), share(reads, 0.99)
     return figures
 
 
-def load():
+def load() -> str:
+    """Returns the load of the last minute."""
     with open("/proc/loadavg") as file:
         return file.read().split()[0]
 
 
-def rounded(value):
+def rounded(value: float) -> float:
+    """Returns a figure with few digits."""
     return round(value) if value >= 100 else round(value, 1 if value >= 2 else 3)
 
 
-def cell(values, spread):
-    """The median of the rounds, and if it is asked for the minimum and the maximum."""
+def cell(values: list[float], spread: bool) -> str:
+    """Returns the median of the rounds, and with `spread` the minimum and the maximum."""
     if not values:
         return "-"
     shown = [f"{rounded(value):,}" for value in (statistics.median(values), min(values), max(values))]
     return f"{shown[0]} ({shown[1]}..{shown[2]})" if spread else shown[0]
 
 
-def main():
+def write_bodies(path: str, size: int, timed: int) -> None:
+    """Writes the batches of a size, and after them those that are timed."""
+    rng = random.Random(size)
+    with open(path, "wb") as file:
+        for number in range(size // IN_BATCH + timed):
+            body = batch(rng, number + 1)
+            file.write(struct.pack(">I", len(body)) + body)
+
+
+def rounds_of(program: str, path: str, options: argparse.Namespace) -> list[dict[str, dict[str, float]]]:
+    """Returns the figures of each round, by kinds and by their names."""
+    rounds = [{kind: measure(program, kind, options.timed, path) for kind in KINDS} for _ in range(options.rounds)]
+    for one in rounds:
+        for kind in KINDS[1:3]:
+            one[kind]["of one"] = one[kind]["admits/s"] / one["one"]["admits/s"]
+    return rounds
+
+
+def main() -> None:
+    """Prints the rows of each number of spans held."""
     asked = asked_of(__doc__, None)
     asked.add_argument("--bin", help="a program that was built by this script")
     asked.add_argument("--folder", help="where the program is built, and stays")
@@ -575,17 +609,10 @@ def main():
         print(f"load at the start {load()}; times in microseconds; medians of {options.rounds} rounds")
         print("| Spans held | | " + " | ".join(columns) + " |")
         print("|---" * (len(columns) + 2) + "|")
+        path = os.path.join(folder, "bodies")
         for size in [int(s) for s in options.sizes.split(",")]:
-            rng = random.Random(size)
-            path = os.path.join(folder, "bodies")
-            with open(path, "wb") as file:
-                for number in range(size // IN_BATCH + options.timed):
-                    body = batch(rng, number + 1)
-                    file.write(struct.pack(">I", len(body)) + body)
-            rounds = [{kind: measure(program, kind, options.timed, path) for kind in KINDS} for _ in range(options.rounds)]
-            for one in rounds:
-                for kind in KINDS[1:3]:
-                    one[kind]["of one"] = one[kind]["admits/s"] / one["one"]["admits/s"]
+            write_bodies(path, size, options.timed)
+            rounds = rounds_of(program, path, options)
             for kind in KINDS:
                 found = [[one[kind][name] for one in rounds if name in one[kind]] for name in columns]
                 cells = [cell(values, options.spread) for values in found]

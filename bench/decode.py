@@ -14,6 +14,7 @@ import struct
 import subprocess
 import tempfile
 import time
+from typing import IO
 
 from results import Record, asked_of
 import wire
@@ -30,15 +31,18 @@ SERVICES = ["frontend", "orders", "billing", "catalogue"]
 COPIES = {"GLIBC_TUNABLES": "glibc.cpu.x86_rep_movsb_threshold=1000000000"}
 
 
-def counted(words, stdin):
-    """The instructions of one run of a program, by callgrind (Debian: valgrind)."""
+def counted(words: list[str], stdin: IO[bytes]) -> int:
+    """Returns the instructions of one run of a program, by callgrind (Debian: valgrind)."""
     with tempfile.NamedTemporaryFile() as out:
         words = ["valgrind", "--tool=callgrind", f"--callgrind-out-file={out.name}", *words]
         run = subprocess.run(words, stdin=stdin, env={**os.environ, **COPIES}, capture_output=True, check=True)
-    return int(re.search(rb"Collected : (\d+)", run.stderr).group(1))
+    found = re.search(rb"Collected : (\d+)", run.stderr)
+    assert found, run.stderr
+    return int(found[1])
 
 
-def tag(rng, key):
+def tag(rng: random.Random, key: str) -> bytes:
+    """Returns a tag of this key, whose kind and value are drawn."""
     kind = rng.choice([0, 0, 0, 0, 3, 2, 1])
     if kind == 0:
         return wire.text_tag(key, "".join(rng.choice("abcdefghijklmnopqrstuvwxyz/.-0123456789") for _ in range(rng.randint(4, 40))))
@@ -51,15 +55,16 @@ def tag(rng, key):
     return field(11, 1) + text(key) + wire.integer(2, kind) + value + b"\0"
 
 
-def span(rng, trace, number, parent, tags=None):
-    """A span with this number of tags, or with 5 to 15."""
+def span(rng: random.Random, trace: int, number: int, parent: int, tags: int | None = None) -> bytes:
+    """Returns a span with this number of tags, or with 5 to 15."""
     operation = rng.choice(["GET /orders", "POST /orders", "SELECT", "publish", "HandleRequest"])
     start, duration = 1_600_000_000_000_000 + rng.randint(0, 10**9), rng.randint(10, 10**6)
     keys = rng.sample(KEYS, rng.randint(5, 15) if tags is None else tags)
     return wire.span(trace, number, parent, operation, start, duration, wire.structs(10, [tag(rng, key) for key in keys]))
 
 
-def batch(rng):
+def batch(rng: random.Random) -> bytes:
+    """Returns a batch of 10 to 50 spans of one trace, each the parent of the next."""
     service = rng.choice(SERVICES)
     trace = rng.getrandbits(63) | 1
     count = rng.randint(10, 50)
@@ -67,7 +72,18 @@ def batch(rng):
     return wire.batch(service, [span(rng, trace, n, numbers[i - 1] if i else 0) for i, n in enumerate(numbers)])
 
 
-def main():
+def seconds(words: list[str], name: str) -> float:
+    """Returns how long the program reads this file, which has no trace that it is asked for."""
+    with open(name, "rb") as stdin:
+        start = time.perf_counter()
+        run = subprocess.run(words, stdin=stdin, capture_output=True)
+        took = time.perf_counter() - start
+    assert run.returncode == 1 and run.stdout == b"trace not found\n", (run.returncode, run.stdout[:200])
+    return took
+
+
+def main() -> None:
+    """Prints a row for each size of the input."""
     asked = asked_of(__doc__)
     asked.add_argument("--sizes", default="1,10,100", help="megabytes of decoded bytes")
     asked.add_argument("--keep", action="store_true", help="keep every batch (the program's limits are raised)")
@@ -86,14 +102,7 @@ def main():
                 bodies += 1
             file.flush()
             words = [options.bin, "get", "ffffffffffffffff", "--batches", "1000000", "--spans", "10000000"]
-            best = None
-            for _ in range(3):
-                with open(file.name, "rb") as stdin:
-                    start = time.perf_counter()
-                    run = subprocess.run(words, stdin=stdin, capture_output=True)
-                    seconds = time.perf_counter() - start
-                assert run.returncode == 1 and run.stdout == b"trace not found\n", (run.returncode, run.stdout[:200])
-                best = seconds if best is None else min(best, seconds)
+            best = min(seconds(words, file.name) for _ in range(3))
             mb = total / 1_000_000
             print(f"{mb:7.1f}M {bodies:8} {best:8.3f} {bodies / best:10.0f} {mb / best:8.1f} {best / mb:9.5f}")
             record.row(size, bodies, round(best, 3), round(bodies / best), round(mb / best, 1))

@@ -6,7 +6,8 @@ Each shape is a session of the built program, `jaeger_one pipe`, with a quarter 
 whole; each size is compared with the one before. If a shape costs what its bytes cost, twice the parts take twice
 the seconds and twice the memory; if two parts multiply it takes four times. Seconds are processor time of the
 program, the minimum of the runs, less those of a session in which nothing is sent; `--count` replaces them by its
-instructions, in millions, which callgrind counts and which are the same on a busy machine (Debian: `valgrind`). Memory is the program's greatest resident size, less that of the same.
+instructions, in millions, which callgrind counts and which are the same on a busy machine (Debian: `valgrind`). Memory is the
+program's greatest resident size, less that of the same.
 
     bench/heavy.py [--bin PATH] [--runs 3] [--parts 1000] [--count] [--save KIND] [SHAPE..]
 
@@ -18,6 +19,7 @@ double in a step, the limit is 1.1 times their growth instead of 2.2, and the li
 `0 over their limits`, or the number of such rows after a line for each; the exit status is 1 then. Fixed costs count
 too, so with a few parts the memory for each byte is above its limit.
 """
+import argparse
 import contextlib
 import json
 import math
@@ -27,10 +29,12 @@ import subprocess
 import sys
 import tempfile
 import time
-from typing import NamedTuple
+from collections.abc import Callable, Iterable, Iterator
+from typing import Any, NamedTuple, NoReturn
 
 from decode import counted
 from results import Record, asked_of
+from servers import piped
 import wire
 from wire import get, integer, long, post, structs, text_tag
 
@@ -41,37 +45,43 @@ START = 1_600_000_000_000_000
 # The limits: of twice the parts, of twice the parts for each time that the bytes grow, of one step for each time that the limit of the average allows, and of
 # the memory for each byte sent.
 GROWTH_BAR, BAR_OF_BYTES, ONE_STEP, SENT_BAR = 2.2, 1.1, 1.2, 10
-COLUMNS = ["body, then what is asked", "MB in", "MB out", "million instructions, quarter", "half", "whole", "ratio, half", "ratio, whole",
-           "MB of memory, quarter", "half", "whole", "ratio, half", "ratio, whole", "of bytes sent", "bar, half", "bar, whole"]
+COLUMNS = ["body, then what is asked", "MB in", "MB out", "million instructions, quarter", "million instructions, half", "million instructions, whole",
+           "instructions, ratio, half", "instructions, ratio, whole", "MB of memory, quarter", "MB of memory, half", "MB of memory, whole",
+           "memory, ratio, half", "memory, ratio, whole", "of bytes sent", "bar, half", "bar, whole"]
 
 
-def tags(count, key="k"):
+def tags(count: int, key: str = "k") -> list[bytes]:
+    """Returns this number of tags without a text."""
     return [text_tag(f"{key}{n}", "") for n in range(count)]
 
 
-def reference(span):
+def reference(span: int) -> bytes:
+    """Returns a reference to a span of the trace."""
     return integer(1, 0) + long(2, TRACE) + long(3, 0) + long(4, span) + b"\0"
 
 
-def span(number, parent=0, trace=TRACE, operation="op", more=b""):
-    """A span that starts by its number; `more` are fields after the others, as wire.py has them."""
+def span(number: int, parent: int = 0, trace: int = TRACE, operation: str = "op", more: bytes = b"") -> bytes:
+    """Returns a span that starts by its number; `more` are fields after the others, as wire.py has them."""
     return wire.span(trace, number, parent, operation, START + number, more=more)
 
 
-def batch(service, process_tags, spans):
+def batch(service: str, process_tags: list[bytes], spans: list[bytes]) -> bytes:
+    """Returns a batch of a service that has these tags."""
     return wire.batch(service, spans, process_tags)
 
 
-def chain(count, first=1):
+def chain(count: int, first: int = 1) -> list[bytes]:
+    """Returns spans, each the parent of the next."""
     return [span(n, n - 1 if n > first else 0) for n in range(first, first + count)]
 
 
-def log(fields):
+def log(fields: list[bytes]) -> bytes:
+    """Returns a log with these fields."""
     return long(1, START) + structs(2, fields) + b"\0"
 
 
-def asked(pairs, service="a"):
-    """A search by this number of tags, which no span has all of."""
+def asked(pairs: int, service: str = "a") -> bytes:
+    """Returns a search by this number of tags, which no span has all of."""
     tags = "".join(f"&tag=x{n}:y" for n in range(pairs))
     return get(f"/api/traces?service={service}&start=1&end={1 << 60}{tags}")
 
@@ -80,49 +90,51 @@ THE_TRACE = get(f"/api/traces/{TRACE:x}")
 DEPENDENCIES = get("/api/dependencies?endTs=1700000000000&lookback=1700000000000")
 
 
-def finds(more):
-    """A search by service `a`."""
+def finds(more: str) -> bytes:
+    """Returns a search by service `a`."""
     return get(f"/api/traces?service=a&start=1&end={1 << 60}{more}")
 
 
-def binary_tag(key, data):
+def binary_tag(key: str, data: bytes) -> bytes:
+    """Returns a binary tag."""
     return wire.field(wire.TEXT, 1) + wire.text(key) + integer(2, 4) + wire.field(wire.TEXT, 7) + wire.binary(data) + b"\0"
 
 
-def a_trace_each(count, first=0):
+def a_trace_each(count: int, first: int = 0) -> list[bytes]:
+    """Returns spans, each of a trace of its own."""
     return [span(k, trace=first + k + 1) for k in range(count)]
 
 
-def family(logs, children):
-    """A span that is moved by its clock, with logs, and its children, each of which is compared with where it is moved to."""
+def family(logs: int, children: int) -> list[bytes]:
+    """Returns a span that is moved by its clock, with logs, and its children, each of which is compared with where it is moved to."""
     parent = span(2, 1, more=structs(11, [log([])] * logs))
     return [span(1), parent, *(span(k, 2) for k in range(3, 3 + children))]
 
 
-def hidden_matches(count):
-    """Traces that matched, were hidden, and were opened again by a batch without the tag."""
+def hidden_matches(count: int) -> list[bytes]:
+    """Returns traces that matched, were hidden, and were opened again by a batch without the tag."""
     matching = batch("a", [text_tag("k", "v")], a_trace_each(count))
     others = batch("z", [], a_trace_each(count, 10_000_000))
     return [post(matching), post(others), post(batch("a", tags(count), a_trace_each(count)))]
 
 
-def pairs_of_services(count, size):
-    """Services with names of this number of bytes, each of which calls each other one in one trace."""
+def pairs_of_services(count: int, size: int) -> list[bytes]:
+    """Returns services with names of this number of bytes, each of which calls each other one in one trace."""
     names = [f"{k:04}" + "s" * size for k in range(count)]
     roots = [post(batch(name, [], [span(1 + k)])) for k, name in enumerate(names)]
     calls = [post(batch(name, [], [span(1000 + k * count + j, 1 + j) for j in range(count)])) for k, name in enumerate(names)]
     return roots + calls
 
 
-def by_turns(count, name):
-    """Two batches of two services whose spans call one another."""
+def by_turns(count: int, name: int) -> list[bytes]:
+    """Returns two batches of two services whose spans call one another."""
     one = [span(n, n - 1) for n in range(1, count, 2)]
     other = [span(n, n - 1) for n in range(2, count, 2)]
     return [post(batch("a" * name, [], one)), post(batch("b" * name, [], other))]
 
 
 # Each gives the requests of a session in which the parts have n thousandths of their whole size.
-SHAPES = {
+SHAPES: dict[str, Callable[[int], list[bytes]]] = {
     "process tags, spans; the trace":
         lambda n: [post(batch("a", tags(12 * n), chain(3 * n))), THE_TRACE],
     "a long ip, spans in a chain; the trace":
@@ -175,7 +187,8 @@ SHAPES = {
     "requested tags, entries; a search":
         lambda n: [post(batch("a", [text_tag("", "")], [span(k)])) for k in range(1, 4 * n)] + [finds("&tag=:" * (n * 13 // 10) + "&tag=x:y")],
     "requested tags that each process has, entries; a search for all":
-        lambda n: [post(batch("a", tags(n * 2 // 5, "x"), [span(k)])) for k in range(1, n // 10)] + [finds("".join(f"&tag=x{k}:" for k in range(n * 2 // 5)) + "&limit=0")],
+        lambda n: [post(batch("a", tags(n * 2 // 5, "x"), [span(k)])) for k in range(1, n // 10)]
+        + [finds("".join(f"&tag=x{k}:" for k in range(n * 2 // 5)) + "&limit=0")],
     "equal processes, a trace each; a search for 20":
         lambda n: [post(batch("a", tags(n), a_trace_each(n))) for _ in range(10)] + [finds("&limit=20")],
     "equal processes, a trace each; a search for all":
@@ -196,7 +209,7 @@ SHAPES = {
         lambda n: hidden_matches(4 * n) + [finds("&tag=k:v&limit=1")],
 }
 # The words of a session beside WORDS.
-MORE_WORDS = {"matches that have left the ring; a search": lambda n: ["--traces", str(4 * n)]}
+MORE_WORDS: dict[str, Callable[[int], list[str]]] = {"matches that have left the ring; a search": lambda n: ["--traces", str(4 * n)]}
 
 
 class Refused(Exception):
@@ -218,23 +231,24 @@ class Step(NamedTuple):
     bar: float
 
     @classmethod
-    def of(cls, half, whole):
+    def of(cls, half: Seen, whole: Seen) -> "Step":
+        """Returns the step from half of the parts to the whole."""
         in_and_out = (whole.sent + whole.answered) / (half.sent + half.answered)
-        ratios = (max(new, 1e-3) / max(old, 1e-3) for old, new in zip(half[:2], whole[:2]))
-        return cls(*ratios, max(GROWTH_BAR, BAR_OF_BYTES * in_and_out))
+        took, memory = (max(new, 1e-3) / max(old, 1e-3) for old, new in ((half.took, whole.took), (half.memory, whole.memory)))
+        return cls(took, memory, max(GROWTH_BAR, BAR_OF_BYTES * in_and_out))
 
 
 class Row:
     """A shape with a quarter of its parts, with half and with the whole."""
 
-    def __init__(self, name, seen):
+    def __init__(self, name: str, seen: list[Seen]) -> None:
         self.name = name
         self.seen = seen
         self.steps = [Step.of(half, whole) for half, whole in zip(seen, seen[1:])]
         self.of_bytes = seen[-1].memory / seen[-1].sent
 
-    def __str__(self):
-        def numbers(values, form):
+    def __str__(self) -> str:
+        def numbers(values: Iterable[float], form: str) -> str:
             return ", ".join(format(value, form) for value in values)
 
         whole, steps = self.seen[-1], self.steps
@@ -244,15 +258,16 @@ class Row:
         return (f"{self.name:55} {whole.sent:6.2f} {whole.answered:7.2f} {took:>24} {numbers([it.took for it in steps], '.1f'):>9} {memory:>16}"
                 f" {numbers([it.memory for it in steps], '.1f'):>9} {self.of_bytes:6.1f}{told}")
 
-    def columns(self):
+    def columns(self) -> list[Any]:
+        """Returns the values of COLUMNS."""
         whole, steps = self.seen[-1], self.steps
         took = [*(round(it.took) for it in self.seen), *(round(it.took, 1) for it in steps)]
         memory = [*(round(it.memory, 1) for it in self.seen), *(round(it.memory, 1) for it in steps)]
         bars = [round(it.bar, 1) for it in steps]
         return [self.name, round(whole.sent, 2), round(whole.answered, 2), *took, *memory, round(self.of_bytes, 1), *bars]
 
-    def faults(self, counted):
-        """What is above its limit; seconds never are."""
+    def faults(self, counted: bool) -> Iterator[str]:
+        """Yields what is above its limit; seconds never are."""
         bars = [step.bar for step in self.steps]
         judged = [("instructions", [step.took for step in self.steps]), ("memory", [step.memory for step in self.steps])][0 if counted else 1:]
         for what, ratios in judged:
@@ -266,11 +281,25 @@ class Row:
             yield f"{self.of_bytes:.1f} bytes of memory for each byte sent, and {SENT_BAR} is the limit"
 
 
+class Ended(NamedTuple):
+    """How a program ended: its exit status, processor seconds and the greatest resident size in kilobytes."""
+    status: int
+    seconds: float
+    peak: int
+
+
+class Session(NamedTuple):
+    """What a session took: processor seconds, the greatest resident size in megabytes, and the bytes of all answers."""
+    seconds: float
+    megabytes: float
+    answered: int
+
+
 class Runner:
     """Runs programs from a process of its own that holds next to nothing: a program's greatest resident size is
     never told to be less than that of the process that started it."""
 
-    def __init__(self):
+    def __init__(self) -> None:
         to_read, self.to = os.pipe()
         self.back, to_write = os.pipe()
         if os.fork() == 0:
@@ -280,33 +309,36 @@ class Runner:
         os.close(to_read)
         os.close(to_write)
 
-    def run(self, words, stdin, stdout):
-        """Exit status, processor seconds and the greatest resident size in kilobytes."""
+    def run(self, words: list[str], stdin: str, stdout: str) -> Ended:
+        """Runs a program on this input."""
         os.write(self.to, json.dumps([words, stdin, stdout]).encode() + b"\n")
-        return json.loads(os.read(self.back, 1000))
+        return Ended(*json.loads(os.read(self.back, 1000)))
 
 
-def serve(to_read, to_write):
+def serve(to_read: int, to_write: int) -> NoReturn:
+    """Runs the programs that are asked for, and ends with the one that asks."""
     for line in os.fdopen(to_read):
         words, stdin, stdout = json.loads(line)
         with open(stdin, "rb") as given, open(stdout, "wb") as got:
             program = subprocess.Popen(words, stdin=subprocess.PIPE, stdout=got)
+            to_program = piped(program.stdin)
             with contextlib.suppress(BrokenPipeError):  # of a program that refused a request and ended
-                program.stdin.write(given.read())
-                program.stdin.flush()
+                to_program.write(given.read())
+                to_program.flush()
             peak = peak_at_rest(program.pid, got.fileno())
             with contextlib.suppress(BrokenPipeError):
-                program.stdin.close()
+                to_program.close()
         _, status, used = os.wait4(program.pid, 0)
         program.returncode = os.waitstatus_to_exitcode(status)
         os.write(to_write, json.dumps([program.returncode, used.ru_utime + used.ru_stime, peak]).encode())
     os._exit(0)
 
 
-def peak_at_rest(pid, output):
-    """The greatest resident size once the program waits for more input. (What the system keeps of an ended one counts this script's own memory too.)
-    It is 0 for a program that has ended."""
-    seen, still = None, 0
+def peak_at_rest(pid: int, output: int) -> int:
+    """Returns the greatest resident size once the program waits for more input, and 0 for one that has ended. (What the system keeps of an ended one
+    counts this script's own memory too.)"""
+    seen: tuple[object, ...] = ()
+    still = 0
     while still < 4:
         time.sleep(0.01)
         with open(f"/proc/{pid}/stat") as file:
@@ -318,46 +350,47 @@ def peak_at_rest(pid, output):
         return next((int(line.split()[1]) for line in file if line.startswith("VmHWM")), 0)
 
 
-def run(runner, command, requests):
-    """Processor seconds, the greatest resident size in megabytes, and the bytes of all answers."""
+def run(runner: Runner, command: list[str], requests: list[bytes]) -> Session:
+    """Runs a session."""
     with tempfile.TemporaryDirectory() as room:
         stdin, stdout = f"{room}/stdin", f"{room}/stdout"
         with open(stdin, "wb") as file:
             file.writelines(requests)
-        status, seconds, kilobytes = runner.run(command, stdin, stdout)
+        ended = runner.run(command, stdin, stdout)
         with open(stdout, "rb") as file:
             answers = file.read()
     if refused := re.search(rb"HTTP/1.1 (4\d\d) ", answers):
         raise Refused(refused[1].decode())
-    assert status == 0 and b"HTTP/1.1 5" not in answers, (status, answers[:400])
-    return seconds, kilobytes / 1024, len(answers)
+    assert ended.status == 0 and b"HTTP/1.1 5" not in answers, (ended.status, answers[:400])
+    return Session(ended.seconds, ended.peak / 1024, len(answers))
 
 
-def least(runner, command, requests, options):
+def least(runner: Runner, command: list[str], requests: list[bytes], options: argparse.Namespace) -> Seen:
+    """Returns the least of the runs of a session."""
     taken = [run(runner, command, requests) for _ in range(options.runs)]
-    took = instructions(command, requests) / 1e6 if options.count else min(t[0] for t in taken)
-    return Seen(took, min(t[1] for t in taken), sum(map(len, requests)) / 1e6, taken[0][2] / 1e6)
+    took = instructions(command, requests) / 1e6 if options.count else min(it.seconds for it in taken)
+    return Seen(took, min(it.megabytes for it in taken), sum(map(len, requests)) / 1e6, taken[0].answered / 1e6)
 
 
-def instructions(command, requests):
-    """The instructions of a session."""
+def instructions(command: list[str], requests: list[bytes]) -> int:
+    """Returns the instructions of a session."""
     with tempfile.TemporaryFile() as stdin:
         stdin.writelines(requests)
         stdin.seek(0)
         return counted(command, stdin)
 
 
-def rows(options, left_out):
-    """A row for each shape that is wanted, less a session in which nothing is sent. A shape that the program refuses is added to `left_out`."""
+def rows(options: argparse.Namespace, left_out: list[str]) -> Iterator[Row]:
+    """Yields a row for each shape that is wanted, less a session in which nothing is sent. A shape that the program refuses is added to `left_out`."""
     runner, command = Runner(), [options.bin, *WORDS]
     rest = least(runner, command, [], options)
     for name, shape in SHAPES.items():
         if options.shapes and not any(word in name for word in options.shapes):
             continue
-        more, seen = MORE_WORDS.get(name, lambda n: []), []
+        more, seen = MORE_WORDS.get(name), []
         try:
             for n in (options.parts // 4, options.parts // 2, options.parts):
-                found = least(runner, command + more(n), shape(n), options)
+                found = least(runner, command + (more(n) if more else []), shape(n), options)
                 seen.append(found._replace(took=found.took - rest.took, memory=found.memory - rest.memory))
         except Refused as refused:
             print(f"{name:55} left out: a body or a head of that many parts is too large ({refused})", flush=True)
@@ -366,14 +399,17 @@ def rows(options, left_out):
         yield Row(name, seen)
 
 
-def main():
+def main() -> int:
+    """Prints a row for each shape; returns 1 if one is over its limit."""
     words = asked_of(__doc__)
     words.add_argument("--runs", type=int, default=3, help="of which the minimum is printed")
     words.add_argument("--parts", type=int, default=1000, help="how many parts the whole has")
     words.add_argument("--count", action="store_true", help="count instructions in place of seconds, in millions")
     words.add_argument("shapes", nargs="*", help="words of the shapes to run; all if none is given")
     options = words.parse_args()
-    record, over, left_out = Record(options, "heavy", COLUMNS), [], []
+    record = Record(options, "heavy", COLUMNS)
+    over: list[str] = []
+    left_out: list[str] = []
     unit = "instructions" if options.count else "seconds"
     print(f"{'':55} {'MB in':>6} {'MB out':>7} {unit:>24} {'ratios':>9} {'MB of memory':>16} {'ratios':>9} {'of sent':>6}")
     for row in rows(options, left_out):

@@ -21,15 +21,18 @@ more than twice the longest POST while nobody asks: if POSTs are about as slow w
 Such a row is measured a second time and counts only if it is over it again: a query that delays POSTs delays them every time.
 The latest traces of a service are over theirs if their middle time at 10,000,000 spans is more than 3 times that at 100,000. With `--at-once` a
 row is over its bound if the eight connections together take more than 10 bytes for each byte sent; with a few parts fixed costs pass that. With
-`--answers` it is if an answer takes more than 100 bytes a span. The last line is `0 over their bounds`, or the number of such rows after a line for each; the exit status is 1 then.
+`--answers` it is if an answer takes more than 100 bytes a span. The last line is `0 over their bounds`, or the number of such rows after a line
+for each; the exit status is 1 then.
 """
+import argparse
 import contextlib
 import itertools
 import statistics
 import sys
 import threading
 import time
-from typing import Callable, NamedTuple
+from collections.abc import Callable, Iterable, Iterator, Sequence
+from typing import Any, NamedTuple
 
 from results import Record, asked_of
 from servers import Client, Failed, Server, check, get, post, post_body
@@ -53,104 +56,124 @@ SLOW = 100
 SPAN_BAR, ANSWERS, ANSWERED_SPANS = 100, (4, ASKING), (100_000,)
 # A short query is asked more often than told, so that some POSTs fall beside it.
 ASKED_FOR = 0.5
-COLUMNS = ["shape", "size", "unit", "POST alone, ms, longest", "middle", "beside, ms, longest", "middle", "query, ms, longest", "query, ms, middle"]
+COLUMNS = ["shape", "size", "unit", "POST alone, ms, longest", "POST alone, ms, middle", "beside, ms, longest", "beside, ms, middle",
+           "query, ms, longest", "query, ms, middle"]
 COLUMNS_ANSWERS = ["answer", "spans", *(f"bytes a span, {count} at once" for count in ANSWERS), "bytes a span, of the others"]
 COLUMNS_AT_ONCE = ["shape", "connections", "MB in", "MB before", "MB more at most", "of bytes sent", "MB held for a slow reader"]
 
+Chosen = Callable[[str], bool]  # whether a shape is asked for
 
-def tag(key, value=""):
+
+class Shape(NamedTuple):
+    """The words of a server, the bodies that fill it, and the query."""
+    words: Sequence[object]
+    bodies: list[bytes]
+    query: bytes
+
+
+def tag(key: str, value: str = "") -> bytes:
+    """Returns a tag with a text."""
     return wire.text_tag(key, value)
 
 
-def binary_tag(key, data):
+def binary_tag(key: str, data: bytes) -> bytes:
+    """Returns a binary tag."""
     return wire.field(wire.TEXT, 1) + wire.text(key) + wire.integer(2, 4) + wire.field(wire.TEXT, 7) + wire.binary(data) + b"\0"
 
 
-def a_trace_each(count, first=1):
+def a_trace_each(count: int, first: int = 1) -> list[bytes]:
+    """Returns spans, each of a trace of its own."""
     return [wire.span(first + k, 1, start=1_600_000_000_000_000 + k) for k in range(count)]
 
 
-def search(more="", service="a"):
+def search(more: str = "", service: str = "a") -> bytes:
+    """Returns a search by a service."""
     return get(f"/api/traces?service={service}&start=1&end={END}{more}")
 
 
 DEPENDENCIES = get("/api/dependencies?endTs=1700000000000&lookback=1700000000000")
 
 
-def many_tags(count):
+def many_tags(count: int) -> list[bytes]:
+    """Returns this number of tags and one with a text."""
     return [tag(f"k{k}") for k in range(count)] + [tag("k", "v")]
 
 
-def found_by_process_tags(n, limit):
-    return [], [wire.batch("a", a_trace_each(n), many_tags(3 * n))], search(f"&tag=k:v&limit={limit}")
+def found_by_process_tags(n: int, limit: int) -> Shape:
+    """Returns traces whose process has many tags, found by one of them."""
+    return Shape([], [wire.batch("a", a_trace_each(n), many_tags(3 * n))], search(f"&tag=k:v&limit={limit}"))
 
 
-def found_by_a_binary(n):
-    return [], [wire.batch("a", a_trace_each(n), [binary_tag("b", bytes(200 * n))])], search("&tag=b:x&limit=0")
+def found_by_a_binary(n: int) -> Shape:
+    """Returns traces whose process has a long binary tag."""
+    return Shape([], [wire.batch("a", a_trace_each(n), [binary_tag("b", bytes(200 * n))])], search("&tag=b:x&limit=0"))
 
 
-def requested_tags(n):
+def requested_tags(n: int) -> Shape:
+    """Returns entries with a tag, and a search by many."""
     bodies = [wire.batch("a", [wire.span(k, 1)], [tag("", "")]) for k in range(1, 20 * n)]
-    return [], bodies, search("&tag=:" * 1300 + "&tag=x:y")
+    return Shape([], bodies, search("&tag=:" * 1300 + "&tag=x:y"))
 
 
-def hidden_matches(n):
-    """Traces that matched, left, and were opened anew by a batch without the tag."""
+def hidden_matches(n: int) -> Shape:
+    """Returns traces that matched, left, and were opened anew by a batch without the tag."""
     old = wire.batch("a", a_trace_each(n), [tag("k", "v")])
     away = wire.batch("z", a_trace_each(n, 10_000_000))
     new = wire.batch("a", a_trace_each(n), many_tags(3 * n)[:-1])
-    return ["--traces", n], [old, away, new], search("&tag=k:v&limit=1")
+    return Shape(["--traces", n], [old, away, new], search("&tag=k:v&limit=1"))
 
 
-def equal_processes(n):
+def equal_processes(n: int) -> Shape:
+    """Returns batches of the same traces with equal processes."""
     bodies = [wire.batch("a", a_trace_each(n), many_tags(n)) for _ in range(10)]
-    return [], bodies, search("&limit=20")
+    return Shape([], bodies, search("&limit=20"))
 
 
-def spread_traces(n, service="a", start=1_600_000_000_000_000, first=1):
-    """Batches of ten one-span traces, whose starts are a microsecond apart."""
+def spread_traces(n: int, service: str = "a", start: int = 1_600_000_000_000_000, first: int = 1) -> list[bytes]:
+    """Returns batches of ten one-span traces, whose starts are a microsecond apart."""
     numbers = range(first, first + 40 * n)
     return [wire.batch(service, [wire.span(k, 1, start=start + k) for k in numbers[at:at + 10]]) for at in range(0, len(numbers), 10)]
 
 
-def older_than_a_wrong_clock(n):
-    """Traces of a service that all start before some thousands of another service."""
+def older_than_a_wrong_clock(n: int) -> Shape:
+    """Returns traces of a service that all start before some thousands of another service."""
     late = [wire.batch("z", [wire.span(k, 1, start=1 << 59) for k in range(10_000_000, 10_000_000 + 6 * n)])]
-    return [], spread_traces(n) + late, search("&limit=20")
+    return Shape([], spread_traces(n) + late, search("&limit=20"))
 
 
-def older_than_a_large_trace(n):
-    """Traces of a service that all start before one trace of another service, which has three in four of the spans."""
+def older_than_a_large_trace(n: int) -> Shape:
+    """Returns traces of a service that all start before one trace of another service, which has three in four of the spans."""
     late = [wire.batch("z", [wire.span(10_000_000, at + k, start=1 << 59) for k in range(1, 6 * n + 1)]) for at in range(0, 120 * n, 6 * n)]
-    return [], spread_traces(n) + late, search("&limit=20")
+    return Shape([], spread_traces(n) + late, search("&limit=20"))
 
 
-def of_one_start(n):
+def of_one_start(n: int) -> Shape:
+    """Returns traces that all start at one time."""
     bodies = [wire.batch("a", [wire.span(k + at, 1, start=1_600_000_000_000_000) for at in range(10)]) for k in range(1, 40 * n, 10)]
-    return [], bodies, search("&limit=20")
+    return Shape([], bodies, search("&limit=20"))
 
 
-def in_few_batches(n):
-    """Traces of a service that came in ten batches."""
-    return [], [wire.batch("a", a_trace_each(4 * n, 1 + 4 * n * k)) for k in range(10)], search("&limit=20")
+def in_few_batches(n: int) -> Shape:
+    """Returns traces of a service that came in ten batches."""
+    return Shape([], [wire.batch("a", a_trace_each(4 * n, 1 + 4 * n * k)) for k in range(10)], search("&limit=20"))
 
 
-def by_duration(n, one_in):
-    """One trace in `one_in`, less one. If that is one in 128, a search without tags is just judged inside a copy."""
-    return [], spread_traces(n), search(f"&minDuration=1us&limit={40 * n // one_in - 1}")
+def by_duration(n: int, one_in: int) -> Shape:
+    """Returns a search that finds one trace in `one_in`, less one. If that is one in 128, a search without tags is just judged inside a copy."""
+    return Shape([], spread_traces(n), search(f"&minDuration=1us&limit={40 * n // one_in - 1}"))
 
 
-def pairs_of_services(n):
-    """Services with long names, each of which calls each other one in one trace."""
+def pairs_of_services(n: int) -> Shape:
+    """Returns services with long names, each of which calls each other one in one trace."""
     count = max(2, n * 3 // 20)
     name = [f"{k:04}" + "s" * (10 * n) for k in range(count)]
     roots = [wire.batch(name[k], [wire.span(7, 1 + k)]) for k in range(count)]
     calls = [wire.batch(name[k], [wire.span(7, 1000 + k * count + j, 1 + j) for j in range(count)]) for k in range(count)]
-    return [], roots + calls, DEPENDENCIES
+    return Shape([], roots + calls, DEPENDENCIES)
 
 
-# Each gives the words of a server, the bodies that fill it, and the query, for n thousandths of the whole.
-SHAPES = {
+# Each gives n thousandths of the whole.
+SHAPES: dict[str, Callable[[int], Shape]] = {
     "process tags x traces found by one, limit 0": lambda n: found_by_process_tags(n, 0),
     "process tags x traces found by one, limit 100": lambda n: found_by_process_tags(2 * n, 100),
     "a binary process tag x traces": found_by_a_binary,
@@ -167,24 +190,26 @@ SHAPES = {
 }
 
 
-def many_traces(n):
+def many_traces(n: int) -> list[bytes]:
+    """Returns a body of traces of one span."""
     return [wire.batch("a", a_trace_each(40 * n))]
 
 
-def a_large_trace(n):
+def a_large_trace(n: int) -> list[bytes]:
+    """Returns a body of one trace."""
     return [wire.batch("a", [wire.span(7, 1 + k, k, start=1_600_000_000_000_000 + k) for k in range(40 * n)])]
 
 
 class AskedAtOnce(NamedTuple):
     """The bodies that fill a server, for n thousandths of the whole, and the query that some connections ask at once."""
-    bodies: Callable
+    bodies: Callable[[int], Iterable[bytes]]
     query: bytes
     connections: int = ASKING
     is_read: bool = True
 
 
-def a_list_with_a_large_trace(n):
-    """A trace of many spans that starts last, and small ones."""
+def a_list_with_a_large_trace(n: int) -> list[bytes]:
+    """Returns a trace of many spans that starts last, and small ones."""
     large = [wire.span(7, 1 + k, k, start=1_700_000_000_000_000 + k) for k in range(30 * n)]
     return [wire.batch("a", a_trace_each(10 * n, 1000)), wire.batch("a", large)]
 
@@ -199,8 +224,8 @@ ASKED_AT_ONCE = {
 }
 
 
-def plain_bodies(spans):
-    """Traces of ten spans of ten services that call one another, in batches of a service; each tenth trace has an error, and each thousandth a rare
+def plain_bodies(spans: int) -> Iterator[bytes]:
+    """Yields traces of ten spans of ten services that call one another, in batches of a service; each tenth trace has an error, and each thousandth a rare
     operation."""
     bad = wire.structs(10, [tag("error", "true")])
     traces = min(spans, MOST_SPANS - FREE) // 10
@@ -234,25 +259,31 @@ PLAIN = {
 ONE_TRACE, MOST_IN_ONE_TRACE = "one trace of all spans", 1_000_000
 
 
-def one_trace(spans):
+def one_trace(spans: int) -> Iterator[bytes]:
+    """Yields the bodies of one trace of that many spans."""
     for first in range(0, spans, IN_BATCH):
         yield wire.batch("a", [wire.span(7, 1 + k, start=1_600_000_000_000_000 + k) for k in range(first, min(first + IN_BATCH, spans))])
 
 
-def in_traces_of(length):
-    """Gives the bodies of that many spans in traces of that length."""
-    def bodies(spans):
+def in_traces_of(length: int) -> Callable[[int], Iterator[bytes]]:
+    """Returns what gives the bodies of that many spans in traces of that length."""
+    def bodies(spans: int) -> Iterator[bytes]:
         for first in range(0, spans, IN_BATCH):
             yield wire.batch("a", [wire.span(1 + k // length, 1 + k, start=1_600_000_000_000_000 + k) for k in range(first, min(first + IN_BATCH, spans))])
     return bodies
 
 
-# What fills a server of a number of spans, and the query whose answer has all of them.
-ANSWERED = {
-    "traces of one span": (in_traces_of(1), search("&limit=0")),
-    "traces of two spans": (in_traces_of(2), search("&limit=0")),
-    "traces of ten spans": (in_traces_of(10), search("&limit=0")),
-    "one trace": (one_trace, get("/api/traces/7")),
+class Answered(NamedTuple):
+    """What gives the bodies of a number of spans, and the query whose answer has all of them."""
+    bodies: Callable[[int], Iterable[bytes]]
+    query: bytes
+
+
+ANSWERED: dict[str, Answered] = {
+    "traces of one span": Answered(in_traces_of(1), search("&limit=0")),
+    "traces of two spans": Answered(in_traces_of(2), search("&limit=0")),
+    "traces of ten spans": Answered(in_traces_of(10), search("&limit=0")),
+    "one trace": Answered(one_trace, get("/api/traces/7")),
 }
 
 
@@ -260,20 +291,22 @@ class Taken(NamedTuple):
     """By how many bytes the memory of a server rose while a number of answers were made at once, for each number."""
     name: str
     spans: int
-    rises: dict
+    rises: dict[int, int]
 
-    def of_span(self, count):
+    def of_span(self, count: int) -> float:
+        """Returns the bytes for each span of this number of answers."""
         return self.rises[count] / (count * self.spans)
 
-    def of_others(self):
-        """What the larger number of answers takes more, for each span of those that are more."""
+    def of_others(self) -> float:
+        """Returns what the larger number of answers takes more, for each span of those that are more."""
         few, many = ANSWERS
         return (self.rises[many] - self.rises[few]) / ((many - few) * self.spans)
 
-    def columns(self):
+    def columns(self) -> list[Any]:
+        """Returns the values of COLUMNS_ANSWERS."""
         return [self.name, self.spans, *(round(self.of_span(count), 1) for count in ANSWERS), round(self.of_others(), 1)]
 
-    def __str__(self):
+    def __str__(self) -> str:
         return "\t".join(f"{it:,}" if isinstance(it, (int, float)) else it for it in self.columns())
 
 
@@ -283,10 +316,11 @@ class Times(NamedTuple):
     middle: float
 
     @classmethod
-    def of(cls, times):
+    def of(cls, times: list[float]) -> "Times":
+        """Returns the longest and the middle of these."""
         return cls(max(times), statistics.median(times))
 
-    def __str__(self):
+    def __str__(self) -> str:
         return f"{self.longest:.1f} ({self.middle:.2f})"
 
 
@@ -299,19 +333,21 @@ class Row(NamedTuple):
     beside: Times
     query: Times
 
-    def bar(self):
-        """How long a POST beside the query may take. What a sender picked is smaller than the smallest plain store."""
+    def bar(self) -> float:
+        """Returns how long a POST beside the query may take. What a sender picked is smaller than the smallest plain store."""
         more = max(0, self.size - 100_000) if self.unit == "spans" else 0
         return POST_BAR + POST_BAR_FOR_A_MILLION * more / 1e6
 
-    def is_over_bound(self):
+    def is_over_bound(self) -> bool:
+        """Returns whether the longest POST beside the query takes too long."""
         return self.beside.longest > max(self.bar(), 2 * self.alone.longest)
 
-    def columns(self):
+    def columns(self) -> list[Any]:
+        """Returns the values of COLUMNS."""
         times = [round(value, 1 + at) for pair in (self.alone, self.beside, self.query) for at, value in enumerate(pair)]
         return [self.name, self.size, self.unit, *times]
 
-    def __str__(self):
+    def __str__(self) -> str:
         return f"{self.name}\t{self.size:,} {self.unit}\t{self.alone}\t{self.beside}\t{self.query}"
 
 
@@ -324,22 +360,24 @@ class Rise(NamedTuple):
     most: int
     waiting: int
 
-    def of_sent(self):
+    def of_sent(self) -> float:
+        """Returns the bytes of memory for each byte sent."""
         return self.most / self.sent
 
-    def is_over_bound(self):
-        """What slow readers take isn't judged: each holds an answer of its own."""
+    def is_over_bound(self) -> bool:
+        """Returns whether it takes too much. What slow readers take isn't judged: each holds an answer of its own."""
         return self.asked.is_read and self.of_sent() > SENT_BAR
 
-    def for_each(self):
-        """The megabytes that are held for a slow reader."""
+    def for_each(self) -> float | None:
+        """Returns the megabytes that are held for a slow reader."""
         return None if self.asked.is_read else round(self.waiting / self.asked.connections / 1e6, 2)
 
-    def columns(self):
+    def columns(self) -> list[Any]:
+        """Returns the values of COLUMNS_AT_ONCE."""
         megabytes = [round(self.sent / 1e6, 2), round(self.before / 1e6, 1), round(self.most / 1e6, 1)]
         return [self.name, self.asked.connections, *megabytes, round(self.of_sent(), 1), self.for_each()]
 
-    def __str__(self):
+    def __str__(self) -> str:
         name, connections, sent, before, most, of_sent, each = self.columns()
         held = "" if each is None else f"\t{each} MB for each"
         return f"{name}\t{connections} connections\t{sent} MB\t{before} MB\t{most} MB\t{of_sent}{held}"
@@ -348,15 +386,16 @@ class Rise(NamedTuple):
 class Poster(threading.Thread):
     """Posts a span every few milliseconds until it is told to end."""
 
-    def __init__(self, port):
+    def __init__(self, port: int) -> None:
         super().__init__()
         self.client = Client(port, patience=600)
         self.going = True
-        self.times = []
-        self.fault = None
+        self.times: list[float] = []
+        self.fault: Exception | None = None
         self.start()
 
-    def run(self):
+    def run(self) -> None:
+        """Posts until it is told to end or a POST fails."""
         number = 1 << 70
         while self.going and not self.fault:
             begin = time.perf_counter()
@@ -368,7 +407,8 @@ class Poster(threading.Thread):
             number += 1
             time.sleep(0.002)
 
-    def ends(self):
+    def ends(self) -> Times:
+        """Ends it, and returns the times of its POSTs."""
         self.going = False
         self.join()
         self.client.socket.close()
@@ -377,8 +417,8 @@ class Poster(threading.Thread):
         return Times.of(self.times)
 
 
-def taken(client, query):
-    """How long the response took, in milliseconds. What comes is counted and dropped."""
+def taken(client: Client, query: bytes) -> float:
+    """Returns how long the response took, in milliseconds. What comes is counted and dropped."""
     begin = time.perf_counter()
     client.send(query)
     head = b""
@@ -393,12 +433,13 @@ def taken(client, query):
     return 1000 * (time.perf_counter() - begin)
 
 
-def beside(server, query, asks):
-    """The times of a POST alone and beside the query, and of the query."""
-    alone = Poster(server.port)
+def beside(server: Server, query: bytes, asks: int) -> tuple[Times, Times, Times]:
+    """Returns the times of a POST alone and beside the query, and of the query."""
+    undisturbed = Poster(server.port)
     time.sleep(1)
-    alone = alone.ends()
-    poster, times = Poster(server.port), []
+    alone = undisturbed.ends()
+    poster = Poster(server.port)
+    times: list[float] = []
     end = time.monotonic() + ASKED_FOR
     with Client(server.port, patience=600) as client:
         while len(times) < asks or time.monotonic() < end:
@@ -407,13 +448,13 @@ def beside(server, query, asks):
 
 
 @contextlib.contextmanager
-def filled(program, words, bodies, workers=WORKERS):
-    """A server that was sent these bodies, and their bytes. Only the bodies of one turn are in memory."""
+def filled(program: str, words: Sequence[object], bodies: Iterable[bytes], workers: int = WORKERS) -> Iterator[tuple[Server, int]]:
+    """Yields a server that was sent these bodies, and their bytes. Only the bodies of one turn are in memory."""
     sent = 0
     with Server(*ROOM, "--workers", workers, *words, binary=program) as server:
-        bodies = iter(bodies)
+        left = iter(bodies)
         with Client(server.port, patience=600) as client:
-            while some := [*itertools.islice(bodies, AT_ONCE)]:
+            while some := [*itertools.islice(left, AT_ONCE)]:
                 client.send(b"".join(map(post_body, some)))
                 for body in some:
                     check(client.response().status == 202, f"the body {body[:40]!r} was refused")
@@ -421,8 +462,8 @@ def filled(program, words, bodies, workers=WORKERS):
         yield server, sent
 
 
-def measured(name, size, unit, server, query, asks):
-    """The row of a shape. One above its bar is measured again, and the better one counts."""
+def measured(name: str, size: float, unit: str, server: Server, query: bytes, asks: int) -> Row:
+    """Measures the row of a shape. One above its bar is measured again, and the better one counts."""
     row = Row(name, size, unit, *beside(server, query, asks))
     if row.is_over_bound():
         print(f"{row}\tabove its bar, measured again", flush=True)
@@ -431,18 +472,18 @@ def measured(name, size, unit, server, query, asks):
     return row
 
 
-def rows_of_senders(options, chosen):
-    """The shapes that a sender may pick, each with half of its parts and with the whole."""
+def rows_of_senders(options: argparse.Namespace, chosen: Chosen) -> Iterator[Row]:
+    """Yields the rows of shapes that a sender may pick, each with half of its parts and with the whole."""
     for name, shape in SHAPES.items():
         for n in (options.parts // 2, options.parts):
             if chosen(name):
-                more, bodies, query = shape(n)
-                with filled(options.bin, more, bodies) as (server, sent):
-                    yield measured(name, round(sent / 1e6, 2), "MB", server, query, options.asks)
+                it = shape(n)
+                with filled(options.bin, it.words, it.bodies) as (server, sent):
+                    yield measured(name, round(sent / 1e6, 2), "MB", server, it.query, options.asks)
 
 
-def rows_of_plain_stores(options, chosen):
-    """The queries of plain stores. A store of millions takes minutes to fill, so it is filled once for all of them."""
+def rows_of_plain_stores(options: argparse.Namespace, chosen: Chosen) -> Iterator[Row]:
+    """Yields the rows of plain stores. A store of millions takes minutes to fill, so it is filled once for all its queries."""
     names = [name for name in PLAIN if chosen(name)]
     for spans in options.spans if names else []:
         begin = time.monotonic()
@@ -452,16 +493,16 @@ def rows_of_plain_stores(options, chosen):
                 yield measured(name, spans, "spans", server, PLAIN[name], options.asks)
 
 
-def rows_of_one_trace(options, chosen):
-    """A trace of all spans: collecting it takes each of them by itself."""
+def rows_of_one_trace(options: argparse.Namespace, chosen: Chosen) -> Iterator[Row]:
+    """Yields the rows of a trace of all spans: collecting it takes each of them by itself."""
     for spans in options.spans if chosen(ONE_TRACE) else []:
         if spans <= MOST_IN_ONE_TRACE:
             with filled(options.bin, [], one_trace(spans)) as (server, _):
                 yield measured(ONE_TRACE, spans, "spans", server, get("/api/traces/7"), options.asks)
 
 
-def asked_at_once(server, asked):
-    """What a server holds after connections asked at once. A client that reads has its whole answer then, a slow one its first byte."""
+def asked_at_once(server: Server, asked: AskedAtOnce) -> int:
+    """Returns what a server holds after connections asked at once. A client that reads has its whole answer then, a slow one its first byte."""
     with contextlib.ExitStack() as all_open:
         room = None if asked.is_read else 4096
         clients = [all_open.enter_context(Client(server.port, patience=600, room=room)) for _ in range(asked.connections)]
@@ -472,11 +513,12 @@ def asked_at_once(server, asked):
                 check(client.response().status == 200, f"{asked.query[:60]!r} was not answered 200")
             else:
                 check(client.socket.recv(1), "no response began")
-        return 1000 * server.memory()
+        held = 1000 * server.memory()
+    return held
 
 
-def rises(options, chosen):
-    """By how much memory rises for each query that is asked at once."""
+def rises(options: argparse.Namespace, chosen: Chosen) -> Iterator[Rise]:
+    """Yields by how much memory rises for each query that is asked at once."""
     for name, asked in ASKED_AT_ONCE.items():
         if not chosen(name):
             continue
@@ -487,23 +529,24 @@ def rises(options, chosen):
             yield Rise(name, asked, sent, before, 1000 * server.peak() - before, held - before)
 
 
-def answers_taken(options, chosen):
-    """What answers take, each number of them in a server of its own, which was asked nothing before."""
-    for name, (bodies, query) in ANSWERED.items():
+def answers_taken(options: argparse.Namespace, chosen: Chosen) -> Iterator[Taken]:
+    """Yields what answers take, each number of them in a server of its own, which was asked nothing before."""
+    for name, answered in ANSWERED.items():
         for spans in ANSWERED_SPANS if chosen(name) else []:
             rises = {}
             for count in ANSWERS:
-                with filled(options.bin, [], bodies(spans), ASKING) as (server, _):
+                with filled(options.bin, [], answered.bodies(spans), ASKING) as (server, _):
                     before = 1000 * server.memory()
                     server.forget_peak()
-                    asked_at_once(server, AskedAtOnce(bodies, query, count))
+                    asked_at_once(server, AskedAtOnce(answered.bodies, answered.query, count))
                     rises[count] = 1000 * server.peak() - before
             yield Taken(name, spans, rises)
 
 
-def all_answers(options, chosen):
-    """The rows of answers by their spans; a line for each over its bound."""
-    record, found = Record(options, "held --answers", COLUMNS_ANSWERS), []
+def all_answers(options: argparse.Namespace, chosen: Chosen) -> list[str]:
+    """Prints the rows of answers by their spans, and returns a line for each over its bound."""
+    record = Record(options, "held --answers", COLUMNS_ANSWERS)
+    found: list[str] = []
     print("\t".join(COLUMNS_ANSWERS))
     for row in answers_taken(options, chosen):
         record.row(*row.columns())
@@ -515,9 +558,10 @@ def all_answers(options, chosen):
     return found
 
 
-def all_at_once(options, chosen):
-    """The rows of connections that ask at once; a line for each over its bound."""
-    record, found = Record(options, "held --at-once", COLUMNS_AT_ONCE), []
+def all_at_once(options: argparse.Namespace, chosen: Chosen) -> list[str]:
+    """Prints the rows of connections that ask at once, and returns a line for each over its bound."""
+    record = Record(options, "held --at-once", COLUMNS_AT_ONCE)
+    found: list[str] = []
     print("shape\tasking\tsent\theld before\tmore at most\tof bytes sent\theld for a slow reader")
     for row in rises(options, chosen):
         record.row(*row.columns())
@@ -529,8 +573,8 @@ def all_at_once(options, chosen):
     return found
 
 
-def over_bound(rows):
-    """A line for each row over its bound."""
+def over_bound(rows: list[Row]) -> Iterator[str]:
+    """Yields a line for each row over its bound."""
     for row in rows:
         if row.is_over_bound():
             yield f"{row.name}, {row.size:,} {row.unit}: a POST beside it took {row.beside.longest:.1f} ms, and {row.bar():.0f} ms is the bar"
@@ -543,9 +587,10 @@ def over_bound(rows):
                 yield f"{name}, {LATEST_SIZES[1]:,} spans: more than {LATEST_BAR} times the middle time at {LATEST_SIZES[0]:,}"
 
 
-def beside_posts(options, chosen):
-    """The rows of queries beside POSTs; a line for each over its bound."""
-    record, rows = Record(options, "held", COLUMNS), []
+def beside_posts(options: argparse.Namespace, chosen: Chosen) -> list[str]:
+    """Prints the rows of queries beside POSTs, and returns a line for each over its bound."""
+    record = Record(options, "held", COLUMNS)
+    rows: list[Row] = []
     print("shape\tsent or held\tPOST alone, ms: longest (middle)\tbeside the query\tthe query, ms: longest (middle)")
     for made in (rows_of_senders, rows_of_plain_stores, rows_of_one_trace):
         for row in made(options, chosen):
@@ -557,11 +602,13 @@ def beside_posts(options, chosen):
     return [*over_bound(rows)]
 
 
-def sizes(text):
+def sizes(text: str) -> list[int]:
+    """Returns the numbers of a list."""
     return [int(size) for size in text.split(",")]
 
 
-def main():
+def main() -> int:
+    """Prints the rows that are asked for; returns 1 if one is over its bound."""
     words = asked_of(__doc__)
     words.add_argument("--parts", type=int, default=1000, help="how many parts the whole has")
     words.add_argument("--spans", type=sizes, default=[100_000], help=f"how many spans the plain stores hold, {MOST_SPANS:,} at most")
@@ -570,7 +617,10 @@ def main():
     words.add_argument("--answers", action="store_true", help="what an answer takes for each of its spans, and nothing else")
     words.add_argument("shapes", nargs="*", help="words of the shapes to run; all if none is given")
     options = words.parse_args()
-    chosen = lambda name: not options.shapes or any(word in name for word in options.shapes)
+
+    def chosen(name: str) -> bool:
+        return not options.shapes or any(word in name for word in options.shapes)
+
     ways = {"at_once": all_at_once, "answers": all_answers}
     judged = next((way for name, way in ways.items() if getattr(options, name)), beside_posts)
     found = judged(options, chosen)

@@ -14,6 +14,7 @@ kind. What is timed is from the first byte of the request to the last byte of it
 The column `of random` is the ratio of the best times.
 """
 import random
+from typing import NamedTuple
 
 from results import Record, asked_of
 from session import Session
@@ -24,40 +25,50 @@ SEED = 0x243F6A8885A308D3
 MULTIPLIER = 0x9E3779B97F4A7C15
 
 
-def folded(a, b):
+class Halves(NamedTuple):
+    """An id of a trace, in its two halves."""
+    high: int
+    low: int
+
+
+def folded(a: int, b: int) -> int:
+    """Returns both halves of a product, each bit of one with that of the other."""
     product = a * b
     return (product & MASK) ^ (product >> 64)
 
 
-def colliding(n):
-    """An id whose hash without a key is that of each other such id: its lower half undoes what its upper half does."""
-    return n, folded(SEED ^ n, MULTIPLIER ^ 16) ^ 0x5555
+def colliding(n: int) -> Halves:
+    """Returns an id whose hash without a key is that of each other such id: its lower half undoes what its upper half does."""
+    return Halves(n, folded(SEED ^ n, MULTIPLIER ^ 16) ^ 0x5555)
 
 
-def ids_of(kind, count):
+def ids_of(kind: str, count: int) -> list[Halves]:
+    """Returns this number of ids of a kind."""
     rng = random.Random(7)
     if kind == "random":
-        return [(rng.getrandbits(64), rng.getrandbits(64)) for _ in range(count)]
+        return [Halves(rng.getrandbits(64), rng.getrandbits(64)) for _ in range(count)]
     if kind == "counted":
-        return [(0, n + 1) for n in range(count)]
+        return [Halves(0, n + 1) for n in range(count)]
     if kind == "one half":
-        return [(n + 1, 1) for n in range(count)]
+        return [Halves(n + 1, 1) for n in range(count)]
     return [colliding(n + 1) for n in range(count)]
 
 
-def body(ids):
-    return wire.batch("a", [wire.span(high << 64 | low, 2) for high, low in ids])
+def body(ids: list[Halves]) -> bytes:
+    """Returns a batch that has a trace of one span for each id."""
+    return wire.batch("a", [wire.span(it.high << 64 | it.low, 2) for it in ids])
 
 
-def measure(binary, sent):
+def measure(binary: str, sent: bytes) -> float:
+    """Returns the seconds that a new session takes for this body."""
     session = Session([binary, "pipe"])
     took, _ = session.ask([wire.post(sent)])
-    session.run.stdin.close()
-    session.run.wait()
+    session.close()
     return took
 
 
-def main():
+def main() -> None:
+    """Prints a row for each kind of ids."""
     asked = asked_of(__doc__)
     asked.add_argument("--traces", type=int, default=20_000, help="in the body")
     asked.add_argument("--rounds", type=int, default=3, help="of which the best is printed")

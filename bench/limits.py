@@ -8,6 +8,7 @@ but ten, and the others have nothing to do. Times are processor time of the prog
     bench/limits.py [--bin PATH] [--sizes 1000,10000,100000] [--limits 100000] [--runs 5] [--save KIND]
 """
 import random
+from collections.abc import Iterator
 
 from decode import span
 from results import Record, asked_of
@@ -15,13 +16,13 @@ from store import IN_BATCH, seconds_over
 import wire
 
 
-def batch(rng):
-    """Ten spans, each of a trace of its own."""
+def batch(rng: random.Random) -> bytes:
+    """Returns ten spans, each of a trace of its own."""
     return wire.batch("orders", [span(rng, rng.getrandbits(62) | 1 << 62, rng.getrandbits(63) | 1, 0) for _ in range(IN_BATCH)])
 
 
-def script(size, limits):
-    """Submits `size` traces, then `limits` limits."""
+def script(size: int, limits: int) -> Iterator[str]:
+    """Yields the lines that submit `size` traces, then `limits` limits."""
     rng = random.Random(1)
     for _ in range(size // IN_BATCH):
         yield "put 0 " + batch(rng).hex() + "\ntake\n"
@@ -30,12 +31,14 @@ def script(size, limits):
     yield "publish\nenter 0\nread 0 /api/services\n"
 
 
-def run(program, size, limits, runs):
+def run(program: str, size: int, limits: int, runs: int) -> float:
+    """Returns the seconds of the script with these numbers of traces and of limits."""
     words = [program, "play", "--batches", "1000000", "--spans", "10000000"]
     return seconds_over(words, script(size, limits), runs)
 
 
-def main():
+def main() -> None:
+    """Prints a row for each number of traces held."""
     asked = asked_of(__doc__)
     asked.add_argument("--sizes", default="1000,10000,100000", help="traces held")
     asked.add_argument("--limits", type=int, default=100_000, help="how many limits the script has")

@@ -29,7 +29,7 @@ fn trace(n: u64) -> u64 {
     (x ^ (x >> 31)) | 1
 }
 
-// A batch in the Thrift binary protocol, docs/wire-format.md.
+// A batch in the Thrift binary protocol, docs/using.md ("The wire format").
 
 fn field(out: &mut Vec<u8>, code: u8, id: i16) {
     out.push(code);

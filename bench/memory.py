@@ -17,15 +17,19 @@ twice as many, so those just above a power of two take most.
     bench/memory.py [--bin PATH] [--sizes 0,10000,100000] [--tags 1,5] [--in-batch 10] [--connections 1] [--process-tags 4,12,20]
                     [--most] [--save KIND]
 """
+import argparse
 import http.client
 import itertools
 import math
 import random
 import socket
+from collections.abc import Callable
+from typing import NamedTuple
 
 from decode import span
 from results import Record, asked_of
 from serve import started
+from servers import Server
 import wire
 
 AT_ONCE = 20
@@ -48,19 +52,38 @@ EMPTY_TAGS = [1, 16, 17, 32, 33, 64, 65, 128, 129, 1024, 1025, 8192, 8193, 26214
 EMPTY_SPANS = [1, 1000]
 MEGABYTES_OF_MOST = 12
 
+Made = Callable[[int], bytes]  # gives the batch with a number
 
-def tags_of_process(number, count):
-    """The first `count` tags of a process."""
+
+class Shape(NamedTuple):
+    """What a server is filled with: tags of a process, tags a span, spans a batch, connections that take turns, and spans in all."""
+    process_tags: int
+    tags: int
+    in_batch: int
+    connections: int
+    size: int
+
+
+class Taken(NamedTuple):
+    """The bytes of a body, how many there were, the bytes of all, and by how many bytes a server takes more."""
+    size: int
+    batches: int
+    sent: int
+    more: int
+
+
+def tags_of_process(number: int, count: int) -> list[bytes]:
+    """Returns the first `count` tags of a process."""
     return [wire.text_tag(key, value.format(number)) for key, value in itertools.islice(PROCESS_TAGS.items(), count)]
 
 
-def batch(rng, tags, in_batch, of_process):
-    """Spans of which each was called by the one before it, with this number of tags."""
+def batch(rng: random.Random, tags: int, in_batch: int, of_process: list[bytes]) -> bytes:
+    """Returns spans of which each was called by the one before it, with this number of tags."""
     trace = rng.getrandbits(63) | 1
     return wire.batch("orders", [span(rng, trace, number + 1, number, tags) for number in range(in_batch)], of_process)
 
 
-def read_accepted(client, count):
+def read_accepted(client: socket.socket, count: int) -> None:
     """Reads this number of responses, which all have to be 202."""
     text = b""
     while text.count(b"\r\n\r\n") < count:
@@ -68,17 +91,17 @@ def read_accepted(client, count):
     assert text.count(b"HTTP/1.1 202 ") == count, text[:200]
 
 
-def fill(server, size, tags, in_batch, connections, process_tags):
+def fill(server: Server, shape: Shape) -> int:
     """Sends this number of spans; returns the bytes of their bodies."""
     rng = random.Random(3)
-    processes = [tags_of_process(number, process_tags) for number in range(connections)]
+    processes = [tags_of_process(number, shape.process_tags) for number in range(shape.connections)]
     clients = [socket.create_connection(("127.0.0.1", server.port)) for _ in processes]
-    left, sent = size // in_batch, 0
+    left, sent = shape.size // shape.in_batch, 0
     while left:
         # A body on each connection; on a single one several, one after the other.
-        turn = [number % connections for number in range(min(left, max(connections, AT_ONCE)))]
+        turn = [number % shape.connections for number in range(min(left, max(shape.connections, AT_ONCE)))]
         for number in turn:
-            body = batch(rng, tags, in_batch, processes[number])
+            body = batch(rng, shape.tags, shape.in_batch, processes[number])
             clients[number].sendall(wire.post(body))
             sent += len(body)
         for number, client in enumerate(clients):
@@ -89,8 +112,8 @@ def fill(server, size, tags, in_batch, connections, process_tags):
     return sent
 
 
-def answered(server):
-    """The bytes of the answer to a search for all traces, and by how many bytes the greatest size rose for it."""
+def answered(server: Server) -> tuple[int, int]:
+    """Returns the bytes of the answer to a search for all traces, and by how many bytes the greatest size rose for it."""
     before = server.peak()
     client = http.client.HTTPConnection("127.0.0.1", server.port)
     client.request("GET", "/api/traces?service=orders&limit=0")
@@ -101,30 +124,30 @@ def answered(server):
     return size, (server.peak() - before) * 1024
 
 
-def empty_tags(count):
-    """So many tags of an empty key and no value."""
+def empty_tags(count: int) -> list[bytes]:
+    """Returns this number of tags of an empty key and no value."""
     return [wire.field(wire.TEXT, 1) + wire.text("") + wire.integer(2, 0) + b"\0"] * count
 
 
-def with_empty_tags(count):
-    """The batch with a number: one span that has nothing but this number of empty tags."""
+def with_empty_tags(count: int) -> Made:
+    """Returns what makes batches of one span that has nothing but this number of empty tags."""
     tags = wire.structs(10, empty_tags(count))
     return lambda number: wire.batch("a", [wire.span(number, 1, operation="", more=tags)])
 
 
-def with_empty_logs(count, tags=65):
-    """The batch with a number: one span that has nothing but this number of logs of empty tags."""
+def with_empty_logs(count: int, tags: int = 65) -> Made:
+    """Returns what makes batches of one span that has nothing but this number of logs of empty tags."""
     logs = wire.structs(11, [wire.long(1, 0) + wire.structs(2, empty_tags(tags)) + b"\0"] * count)
     return lambda number: wire.batch("a", [wire.span(number, 1, operation="", more=logs)])
 
 
-def of_empty_spans(count):
-    """The batch with a number: this number of spans that have nothing, each the only one of its trace."""
+def of_empty_spans(count: int) -> Made:
+    """Returns what makes batches of this number of spans that have nothing, each the only one of its trace."""
     return lambda number: wire.batch("a", [wire.span(number * count + at, 1, operation="") for at in range(count)])
 
 
-def taken(options, made):
-    """What a server takes for such bodies beside an empty one: the bytes of one, how many there were, and the bytes more."""
+def taken(options: argparse.Namespace, made: Made) -> Taken:
+    """Measures what a server takes for such bodies beside an empty one."""
     with started(options.bin, 2) as server, socket.create_connection(("127.0.0.1", server.port)) as client:
         client.sendall(wire.get("/api/services"))
         client.recv(65536)
@@ -134,27 +157,48 @@ def taken(options, made):
             bodies = [made(number) for number in range(first, min(first + AT_ONCE, batches))]
             client.sendall(b"".join(map(wire.post, bodies)))
             read_accepted(client, len(bodies))
-        return size, batches, size * batches, (server.peak() - before) * 1024
+        return Taken(size, batches, size * batches, (server.peak() - before) * 1024)
 
 
-def most(options):
-    """What a server takes for the bodies that take most for each byte of them, beside an empty one."""
+def most(options: argparse.Namespace) -> None:
+    """Prints what a server takes for the bodies that take most for each byte of them, beside an empty one."""
     record = Record(options, "memory, most", COLUMNS_OF_MOST)
     bodies = [("empty tags of one span", count, with_empty_tags(count)) for count in EMPTY_TAGS]
     bodies += [("logs of one span, of 65 empty tags each", 40, with_empty_logs(40))]
     bodies += [("spans of nothing, a trace each", count, of_empty_spans(count)) for count in EMPTY_SPANS]
     for what, count, made in bodies:
-        size, batches, sent, more = taken(options, made)
-        print(f"{batches} batches of {size} bytes, {count} {what}: {sent / 1e6:.1f} MB, {more / 1e6:.1f} MB more, {more / sent:.2f} of the bytes in", flush=True)
-        record.row(what, count, size, batches, round(sent / 1e6, 1), round(more / 1e6, 1), round(more / sent, 2))
+        it = taken(options, made)
+        of_bytes = it.more / it.sent
+        print(f"{it.batches} batches of {it.size} bytes, {count} {what}: {it.sent / 1e6:.1f} MB, {it.more / 1e6:.1f} MB more, {of_bytes:.2f} of the bytes in",
+              flush=True)
+        record.row(what, count, it.size, it.batches, round(it.sent / 1e6, 1), round(it.more / 1e6, 1), round(of_bytes, 2))
     record.save()
 
 
-def numbers(text):
+def numbers(text: str) -> list[int]:
+    """Returns the numbers of a list."""
     return [int(number) for number in text.split(",")]
 
 
-def main():
+def show(options: argparse.Namespace, shape: Shape, record: Record) -> None:
+    """Fills a server, asks it for all traces, and prints and records the row."""
+    with started(options.bin, 2) as server:
+        sent = fill(server, shape)
+        held = server.peak() * 1024
+        answer, more = answered(server)
+    process_tags, tags, in_batch, connections, size = shape
+    per = f"{held / size:13.0f} {held / sent:12.2f}" if size else f"{'-':>13} {'-':>12}"
+    print(f"{process_tags:>10} {tags:>5} {in_batch:>8} {connections:>6} {size:>9} {sent / 1e6:>7.1f} {held / 1e6:>8.1f} {per} {answer / 1e6:>10.1f} "
+          f"{more / 1e6:>8.1f}", flush=True)
+    each = [round(sent / 1e6, 1), round(held / 1e6, 1), round(held / size) if size else None]
+    if options.process_tags:
+        record.row(process_tags, tags, in_batch, connections, *each, round(held / sent, 2) if sent else None, round(more / 1e6, 1))
+    else:
+        record.row(size, tags, *each, round(answer / 1e6, 1), round(more / 1e6, 1))
+
+
+def main() -> None:
+    """Prints a row for each number of spans and of tags, or the worst bodies."""
     asked = asked_of(__doc__)
     asked.add_argument("--sizes", default="0,10000,100000", help="spans held, 10,000,000 at most")
     asked.add_argument("--tags", default="1,5", help="tags a span, 15 at most")
@@ -170,21 +214,9 @@ def main():
           f"{'MB answer':>10} {'MB more':>8}")
     all_process_tags = numbers(options.process_tags or "0")
     others = map(numbers, (options.tags, options.in_batch, options.connections, options.sizes))
-    for process_tags, tags, in_batch, connections, size in itertools.product(all_process_tags, *others):
-        if connections == 1 and process_tags != all_process_tags[0]:
-            continue  # All batches have one process: its tags hardly count.
-        with started(options.bin, 2) as server:
-            sent = fill(server, size, tags, in_batch, connections, process_tags)
-            held = server.peak() * 1024
-            answer, more = answered(server)
-        per = f"{held / size:13.0f} {held / sent:12.2f}" if size else f"{'-':>13} {'-':>12}"
-        print(f"{process_tags:>10} {tags:>5} {in_batch:>8} {connections:>6} {size:>9} {sent / 1e6:>7.1f} {held / 1e6:>8.1f} {per} {answer / 1e6:>10.1f} "
-              f"{more / 1e6:>8.1f}", flush=True)
-        each = [round(sent / 1e6, 1), round(held / 1e6, 1), round(held / size) if size else None]
-        if options.process_tags:
-            record.row(process_tags, tags, in_batch, connections, *each, round(held / sent, 2) if sent else None, round(more / 1e6, 1))
-        else:
-            record.row(size, tags, *each, round(answer / 1e6, 1), round(more / 1e6, 1))
+    for shape in itertools.starmap(Shape, itertools.product(all_process_tags, *others)):
+        if shape.connections > 1 or shape.process_tags == all_process_tags[0]:  # Of one connection all batches have one process: its tags hardly count.
+            show(options, shape, record)
     record.save()
 
 

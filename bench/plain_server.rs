@@ -5,7 +5,7 @@
 //!     ./plain_server serve --port 0 --workers 4
 //!
 //! It takes `POST /api/traces`, and answers `GET /api/traces/{id}`, `GET /api/traces?service=..&limit=..` (these two parameters
-//! alone) and `GET /api/services` with the bytes of docs/query-api.md: the parent's reference in front, clock skew corrected
+//! alone) and `GET /api/services` with the bytes of docs/using.md ("Query"): the parent's reference in front, clock skew corrected
 //! up to `--max-skew`. Options: `--host`, `--port`, `--workers`, `--idle`, `--sessions`, `--max-skew` as `serve` has them. The other
 //! options of `serve` are taken and not looked at: it has no limits.
 

@@ -12,6 +12,8 @@ program, the minimum of the runs, less those of a script in which nothing is sub
 
     bench/resent.py [--bin PATH] [--sizes 1000,10000,100000] [--runs 5] [--save KIND]
 """
+from collections.abc import Callable, Iterator
+from typing import NamedTuple
 
 from heavy import span
 from results import Record, asked_of
@@ -22,38 +24,48 @@ from wire import field, integer, long, text, text_tag
 CHOICES = 17
 
 
-def tag(key, is_number):
+def tag(key: str, is_number: int) -> bytes:
+    """Returns a tag with the number 1, or with the text `1`."""
     if is_number:
         return field(11, 1) + text(key) + integer(2, 3) + long(6, 1) + b"\0"
     return text_tag(key, "1")
 
 
-def batch(choice, number):
-    """One span of a process with these kinds of tags, under the number if there is one."""
+def batch(choice: int, number: int | None) -> str:
+    """Returns one span of a process with these kinds of tags, under the number if there is one."""
     tags = [tag(f"k{n}", choice >> n & 1) for n in range(CHOICES)]
     return wire.batch("orders", [span(1)], tags, number).hex()
 
 
-WAYS = {
-    "new numbers": lambda n: (0, n),
-    "one number": lambda n: (n, 1),
-    "again": lambda n: (0, 1),
+class Sent(NamedTuple):
+    """What a batch has: the kinds of its tags, and its number."""
+    choice: int
+    number: int
+
+
+WAYS: dict[str, Callable[[int], Sent]] = {
+    "new numbers": lambda n: Sent(0, n),
+    "one number": lambda n: Sent(n, 1),
+    "again": lambda n: Sent(0, 1),
 }
 
 
-def script(way, size, is_numbered):
+def script(way: str, size: int, is_numbered: bool) -> Iterator[str]:
+    """Yields the lines that submit this number of batches, with their numbers or without."""
     for sent in range(size):
-        choice, number = WAYS[way](sent)
-        yield f"put 0 {batch(choice, number if is_numbered else None)}\ntake\n"
+        it = WAYS[way](sent)
+        yield f"put 0 {batch(it.choice, it.number if is_numbered else None)}\ntake\n"
     yield "publish\n"
 
 
-def run(program, way, size, is_numbered, runs):
+def run(program: str, way: str, size: int, is_numbered: bool, runs: int) -> float:
+    """Returns the seconds of such a script."""
     words = [program, "play", "--batches", "200000", "--spans", "200000"]
     return seconds_over(words, script(way, size, is_numbered), runs)
 
 
-def main():
+def main() -> None:
+    """Prints a row for each way and each number of batches."""
     asked = asked_of(__doc__)
     asked.add_argument("--sizes", default="1000,10000,100000", help="batches submitted, 131,072 at most")
     asked.add_argument("--runs", type=int, default=5, help="of which the minimum is taken")

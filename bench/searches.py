@@ -17,12 +17,14 @@ prints what applying costs by number of spans held instead: microseconds a batch
 how many instructions the JSON of 20 traces takes a byte, of a tenth of the spans, as callgrind counts them (Debian: valgrind): those of the
 question with its JSON, without those of the same question alone.
 """
+import argparse
 import os
 import random
 import statistics
 import struct
 import subprocess
 import tempfile
+from typing import NamedTuple
 
 from compare import FASTEST, instructions
 from copies import BODIES, ENTRY_OF, NOW, SPLIT_BODY, built, load
@@ -221,58 +223,74 @@ fn main(rt: HostRuntime) -> Result<()> {
 DEPS = "span_store query_json batch_codec jaeger_model trace_model serde_json anyhow"
 
 
-def begin_of(trace):
+def begin_of(trace: int) -> int:
+    """Returns the microsecond at which a trace begins."""
     return 1_600_000_000_000_000 + trace * 300_000
 
 
-def begun(one, start):
-    """The span with this start in place of its own."""
+def begun(one: bytes, start: int) -> bytes:
+    """Returns the span with this start in place of its own."""
     at = one.index(wire.field(10, 8))
     value = wire.long(8, start)
     return one[:at] + value + one[at + len(value):]
 
 
-def write_bodies(rng, path, spans):
-    """Batches of up to 10 spans of one service, those of some traces mixed; the middle of all starts in milliseconds."""
-    pieces, count, trace = [], 0, 0
+class Piece(NamedTuple):
+    """A batch: when it comes, its trace, its service and the numbers of its spans."""
+    place: float
+    trace: int
+    service: str
+    numbers: list[int]
+
+
+def write_bodies(rng: random.Random, path: str, spans: int) -> int:
+    """Writes batches of up to 10 spans of one service, those of some traces mixed; returns the middle of all starts in milliseconds."""
+    pieces: list[Piece] = []
+    count = trace = 0
     while count < spans:
         trace += 1
         size = rng.randint(10, 50)
-        parts = {}
+        parts: dict[str, list[int]] = {}
         for number in range(1, size + 1):
             service = "rare" if trace % 1000 == 7 and number == 3 else rng.choice(SERVICES)
             parts.setdefault(service, []).append(number)
         for service, numbers in parts.items():
             for at in range(0, len(numbers), 10):
-                pieces.append((trace + rng.random() * 3, trace, service, numbers[at:at + 10]))
+                pieces.append(Piece(trace + rng.random() * 3, trace, service, numbers[at:at + 10]))
         count += size
     pieces.sort()
     with open(path, "wb") as file:
-        for _, trace, service, numbers in pieces:
-            spans = [begun(span(rng, trace, number, number // 2), begin_of(trace) + number) for number in numbers]
-            body = wire.batch(service, spans)
+        for it in pieces:
+            body = wire.batch(it.service, [begun(span(rng, it.trace, number, number // 2), begin_of(it.trace) + number) for number in it.numbers])
             file.write(struct.pack(">I", len(body)) + body)
-    return 1_600_000_000_000 + (trace // 2) * 300
+    return 1_600_000_000_000 + (pieces[-1].trace // 2) * 300
 
 
-def ask(program, path, rounds, end_ms):
-    """The least nanoseconds of each question, and what was found."""
+class Asked(NamedTuple):
+    """The least nanoseconds of each question, how much was found, and the nanoseconds of each batch that was applied."""
+    least: dict[int, int]
+    sizes: dict[int, int]
+    applied: list[int]
+
+
+def ask(program: str, path: str, rounds: int, end_ms: int) -> Asked:
+    """Returns what a run of the program prints."""
     with open(path, "rb") as stdin:
         run = subprocess.run([program, str(rounds), str(end_ms)], stdin=stdin, capture_output=True, text=True, check=True)
-    least, found = {}, {}
+    found = Asked({}, {}, [])
     for line in run.stdout.splitlines():
         number, took, size = line.split()[:3]
         if number == "apply":
-            least.setdefault("apply", []).append(int(took))
+            found.applied.append(int(took))
             continue
-        least[int(number)] = min(int(took), least.get(int(number), 1 << 62))
-        found[int(number)] = int(size)
-    return least, found
+        found.least[int(number)] = min(int(took), found.least.get(int(number), 1 << 62))
+        found.sizes[int(number)] = int(size)
+    return found
 
 
-def count(program, path, end_ms):
-    """The instructions of the JSON of 20 traces, and its bytes."""
-    def more(number):
+def count(program: str, path: str, end_ms: int) -> tuple[float, int]:
+    """Returns the instructions of the JSON of 20 traces, and its bytes."""
+    def more(number: int) -> float:
         one, eleven = (instructions(program, rounds, path, [str(end_ms), str(number)]) for rounds in (1, 11))
         return (eleven - one) / 10
     with open(path, "rb") as stdin:
@@ -280,7 +298,47 @@ def count(program, path, end_ms):
     return more(2) - more(1), int(said.split()[3])
 
 
-def main():
+def show_load(program: str, path: str, options: argparse.Namespace) -> None:
+    """Prints what applying costs by number of spans held, and records it."""
+    record = Record(options, "searches --load", ["spans held", "microseconds a batch"])
+    for size in (1000, 10_000, 100_000, 1_000_000):
+        write_bodies(random.Random(1), path, size)
+        taken = statistics.median(ask(program, path, 0, 0).applied[-200:]) / 1000
+        print(f"{size:>9} spans: {taken:8.2f} us a batch", flush=True)
+        record.row(size, round(taken, 1))
+    record.save()
+
+
+def show_count(program: str, path: str, options: argparse.Namespace) -> None:
+    """Prints what the JSON of 20 traces takes, and records it."""
+    end_ms = write_bodies(random.Random(1), path, options.spans // 10)
+    taken, size = count(program, path, end_ms)
+    print(f"JSON of 20 traces: {size:,} bytes, {taken / size:.1f} instructions a byte")
+    record = Record(options, "searches --count", ["what", "instructions a byte"])
+    record.row("the JSON of 20 traces", round(taken / size, 1))
+    record.save()
+
+
+def show(program: str, scan: str, path: str, options: argparse.Namespace) -> None:
+    """Prints what each question takes of the store and of the scan, and records it."""
+    end_ms = write_bodies(random.Random(1), path, options.spans)
+    mine, other = (ask(it, path, options.rounds, end_ms) for it in (program, scan))
+    print(f"{options.spans:,} spans; milliseconds, the minimum of {options.rounds}")
+    print("| Question | found | store | scan | times as fast |")
+    print("|---|---|---|---|---|")
+    record = Record(options, "searches", ["question", "found", "store, ms", "scan, ms"], peers=f"{compiler('rustc')} {FASTEST}")
+    for number, name in enumerate(QUESTIONS):
+        found = mine.sizes[number]
+        assert found == other.sizes[number], (name, found, other.sizes[number])
+        in_store, in_scan = mine.least[number] / 1e6, other.least[number] / 1e6
+        print(f"| {name} | {found} | {in_store:.4f} | {in_scan:.4f} | {in_scan / in_store:,.1f} |")
+        record.row(name, found, round(in_store, 4), round(in_scan, 4))
+    record.save()
+    print(f"load at the end {load()}")
+
+
+def main() -> None:
+    """Prints what is asked for."""
     asked = asked_of(__doc__, None)
     asked.add_argument("--bin", help="a program that was built by this script")
     asked.add_argument("--folder", help="where the program is built, and stays")
@@ -294,37 +352,11 @@ def main():
         path = os.path.join(folder, "bodies")
         print(f"load at the start {load()}")
         if options.load:
-            record = Record(options, "searches --load", ["spans held", "microseconds a batch"])
-            for size in (1000, 10_000, 100_000, 1_000_000):
-                write_bodies(random.Random(1), path, size)
-                times, _ = ask(program, path, 0, 0)
-                taken = statistics.median(times["apply"][-200:]) / 1000
-                print(f"{size:>9} spans: {taken:8.2f} us a batch", flush=True)
-                record.row(size, round(taken, 1))
-            record.save()
-            return
-        if options.count:
-            end_ms = write_bodies(random.Random(1), path, options.spans // 10)
-            taken, size = count(program, path, end_ms)
-            print(f"JSON of 20 traces: {size:,} bytes, {taken / size:.1f} instructions a byte")
-            record = Record(options, "searches --count", ["what", "instructions a byte"])
-            record.row("the JSON of 20 traces", round(taken / size, 1))
-            record.save()
-            return
-        end_ms = write_bodies(random.Random(1), path, options.spans)
-        store, in_store = ask(program, path, options.rounds, end_ms)
-        scan, in_scan = ask(rust_program(folder, "bench/compare/scan.rs", FASTEST), path, options.rounds, end_ms)
-        print(f"{options.spans:,} spans; milliseconds, the minimum of {options.rounds}")
-        print("| Question | found | store | scan | times as fast |")
-        print("|---|---|---|---|---|")
-        record = Record(options, "searches", ["question", "found", "store, ms", "scan, ms"], peers=f"{compiler('rustc')} {FASTEST}")
-        for number, name in enumerate(QUESTIONS):
-            assert in_store[number] == in_scan[number], (name, in_store[number], in_scan[number])
-            one, other = store[number] / 1e6, scan[number] / 1e6
-            print(f"| {name} | {in_store[number]} | {one:.4f} | {other:.4f} | {other / one:,.1f} |")
-            record.row(name, in_store[number], round(one, 4), round(other, 4))
-        record.save()
-        print(f"load at the end {load()}")
+            show_load(program, path, options)
+        elif options.count:
+            show_count(program, path, options)
+        else:
+            show(program, rust_program(folder, "bench/compare/scan.rs", FASTEST), path, options)
 
 
 if __name__ == "__main__":

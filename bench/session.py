@@ -14,6 +14,7 @@ import time
 
 from decode import span
 from results import Record, asked_of
+from servers import piped
 import wire
 from wire import get, post
 
@@ -21,44 +22,54 @@ IN_BATCH = 10
 EVERY = 100
 
 
-def batch(rng, trace, service):
+def batch(rng: random.Random, trace: int, service: str) -> bytes:
+    """Returns a batch of one trace, each span the parent of the next."""
     return wire.batch(service, [span(rng, trace, n, n - 1) for n in range(1, IN_BATCH + 1)])
 
 
 class Session:
-    def __init__(self, words):
+    """A run of a program that takes requests on its standard input."""
+    def __init__(self, words: list[str]) -> None:
         self.run = subprocess.Popen(words, stdin=subprocess.PIPE, stdout=subprocess.PIPE, bufsize=0)
+        self.stdin, self.stdout = piped(self.run.stdin), piped(self.run.stdout)
         self.left = b""
 
-    def line(self):
+    def close(self) -> None:
+        """Ends the input and waits until the program has ended."""
+        self.stdin.close()
+        self.run.wait()
+
+    def line(self) -> bytes:
+        """Returns the next line of the responses."""
         while b"\r\n" not in self.left:
-            self.left += self.run.stdout.read(65536)
+            self.left += self.stdout.read(65536)
         line, self.left = self.left.split(b"\r\n", 1)
         return line
 
-    def answer(self):
-        """The status and the length of the next response."""
+    def answer(self) -> tuple[int, int]:
+        """Returns the status and the length of the next response."""
         status = int(self.line().split()[1])
         length = 0
         while (line := self.line()):
             if line.startswith(b"Content-Length: "):
                 length = int(line[16:])
         while len(self.left) < length:
-            self.left += self.run.stdout.read(1 << 20)
+            self.left += self.stdout.read(1 << 20)
         self.left = self.left[length:]
         return status, length
 
-    def ask(self, requests):
-        """Seconds for these requests, one after the other, and the bytes of the last answer."""
+    def ask(self, requests: list[bytes]) -> tuple[float, int]:
+        """Returns the seconds for these requests, one after the other, and the bytes of the last answer."""
         begin = time.perf_counter()
         for request in requests:
-            self.run.stdin.write(request)
+            self.stdin.write(request)
             status, length = self.answer()
             assert status < 300, status
         return time.perf_counter() - begin, length
 
 
-def measure(binary, size, asks, record):
+def measure(binary: str, size: int, asks: int, record: Record) -> None:
+    """Posts this number of spans, asks each query, prints the rows and records them."""
     rng = random.Random(7)
     count = size // IN_BATCH
     posts = [post(batch(rng, n + 1, "rare" if n % EVERY == 0 else "common")) for n in range(count)]
@@ -84,11 +95,11 @@ def measure(binary, size, asks, record):
         took, length = session.ask([get(target)] * asks)
         print("         %-36s %10.3f ms, %8d bytes" % (name, took / asks * 1e3, length))
         record.row(name, size, float(f"{took / asks * 1e3:.2g}"))
-    session.run.stdin.close()
-    session.run.wait()
+    session.close()
 
 
-def main():
+def main() -> None:
+    """Prints what posts and queries cost by number of spans held."""
     asked = asked_of(__doc__)
     asked.add_argument("--sizes", default="1000,10000,100000", help="spans held")
     asked.add_argument("--asks", type=int, default=20, help="how often each query is asked")

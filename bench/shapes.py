@@ -18,8 +18,10 @@ are held, then questions are asked whose answers grow with them. The shapes:
 What is counted is the processor time of the program (/proc/PID/schedstat), the minimum of the rounds, at the size and
 at twice it; `ratio` is their quotient.
 """
+from collections.abc import Callable
+from typing import NamedTuple
 
-from ids import colliding
+from ids import Halves, colliding
 from results import Record, asked_of
 from session import Session
 import wire
@@ -28,37 +30,47 @@ from wire import get, post
 LINKS = "/api/dependencies?endTs=9000000000000&lookback=9000000000000"
 
 
-def span(trace, number, parent, operation="op"):
-    high, low = trace
-    return wire.span(high << 64 | low, number, parent, operation, 1_000_000 + number)
+class Cost(NamedTuple):
+    """The seconds of a processor that requests took, and the bytes of the last answer."""
+    seconds: float
+    length: int
 
 
-def body(service, spans, host=None):
+def span(trace: Halves, number: int, parent: int, operation: str = "op") -> bytes:
+    """Returns a span of a trace."""
+    return wire.span(trace.high << 64 | trace.low, number, parent, operation, 1_000_000 + number)
+
+
+def body(service: str, spans: list[bytes], host: str | None = None) -> bytes:
+    """Returns the request that posts these spans, whose process has the host as a tag if there is one."""
     tags = [] if host is None else [wire.text_tag("host", host)]
     return post(wire.batch(service, spans, tags))
 
 
-def side(n):
+def side(n: int) -> str:
+    """Returns one service of two, by turns."""
     return "a" if n % 2 else "b"
 
 
-def tens(size, make):
+def tens(size: int, make: Callable[[int], bytes]) -> list[bytes]:
+    """Returns the requests that post this number of spans, ten a batch."""
     return [body("a", [make(n) for n in range(first, first + 10)]) for first in range(1, size + 1, 10)]
 
 
-ONE = 0, 1
+ONE = Halves(0, 1)
 
 
-def bodies(shape, size):
+def bodies(shape: str, size: int) -> list[bytes]:
+    """Returns the requests that post this number of spans of a shape."""
     if shape == "traces":
         return [
-            body(side(n // 10), [span((0, n // 20 + 1), n + i, n + i - 1 if i else 0) for i in range(10)])
+            body(side(n // 10), [span(Halves(0, n // 20 + 1), n + i, n + i - 1 if i else 0) for i in range(10)])
             for n in range(0, size, 10)
         ]
     if shape == "services":
-        return [body("service-%d" % n, [span((0, n), 1, 0)]) for n in range(1, size + 1)]
+        return [body("service-%d" % n, [span(Halves(0, n), 1, 0)]) for n in range(1, size + 1)]
     if shape == "operations":
-        return tens(size, lambda n: span((0, n // 10 + 1), n, 0, "operation-%d" % n))
+        return tens(size, lambda n: span(Halves(0, n // 10 + 1), n, 0, "operation-%d" % n))
     if shape == "one trace":
         return tens(size, lambda n: span(ONE, n, 0 if n == 1 else 1))
     if shape == "processes":
@@ -70,48 +82,53 @@ def bodies(shape, size):
     return tens(size, lambda n: span(colliding(n), 1, 0))
 
 
-def questions(shape):
+def questions(shape: str) -> list[tuple[str, str]]:
+    """Returns the name and the target of each query."""
     service = "service-1" if shape == "services" else "a"
-    trace = colliding(1) if shape == "colliding" else (0, 1)
+    trace = colliding(1) if shape == "colliding" else ONE
     rows = [("services", "/api/services"), ("operations", "/api/operations?service=" + service)]
     rows.append(("20 traces", "/api/traces?service=%s&limit=20" % service))
     rows.append(("no such tag", "/api/traces?service=%s&tags=%%7B%%22none%%22%%3A%%22x%%22%%7D" % service))
-    rows.append(("a trace", "/api/traces/%x%016x" % trace if trace[0] else "/api/traces/%x" % trace[1]))
-    rows.append(("the trace, raw", rows[-1][1] + "?raw=true"))
+    rows.append(("a trace", "/api/traces/%x%016x" % trace if trace.high else "/api/traces/%x" % trace.low))
+    _, target = rows[-1]
+    rows.append(("the trace, raw", target + "?raw=true"))
     rows.append(("dependencies", LINKS))
     return rows
 
 
 class Timed(Session):
-    def spent(self):
-        """Seconds of processor time so far."""
+    """A session that tells what processor time it takes."""
+    def spent(self) -> float:
+        """Returns the seconds of processor time so far."""
         with open("/proc/%d/schedstat" % self.run.pid) as reported:
             return int(reported.read().split()[0]) / 1e9
 
-    def cost(self, requests):
+    def cost(self, requests: list[bytes]) -> Cost:
+        """Returns what these requests cost."""
         before = self.spent()
         _, length = self.ask(requests)
-        return self.spent() - before, length
+        return Cost(self.spent() - before, length)
 
 
-def measure(binary, shape, size):
-    """Seconds by what was done, and the bytes of its answer."""
+def measure(binary: str, shape: str, size: int) -> dict[str, Cost]:
+    """Returns what the posts and each query cost, by their names."""
     session = Timed([binary, "pipe", "--batches", "1000000", "--spans", "1000000"])
     session.ask([get("/api/services")])
     found = {"posts": session.cost(bodies(shape, size))}
     for name, target in questions(shape):
         session.ask([get(target)])
         found[name] = session.cost([get(target)])
-    session.run.stdin.close()
-    session.run.wait()
+    session.close()
     return found
 
 
-def least(rounds):
-    return {name: (min(one[name][0] for one in rounds), rounds[0][name][1]) for name in rounds[0]}
+def least(rounds: list[dict[str, Cost]]) -> dict[str, Cost]:
+    """Returns the least cost of the rounds, by what was done."""
+    return {name: Cost(min(one[name].seconds for one in rounds), it.length) for name, it in rounds[0].items()}
 
 
-def main():
+def main() -> None:
+    """Prints what twice the input costs, of each shape."""
     asked = asked_of(__doc__)
     asked.add_argument("--size", type=int, default=10_000, help="spans, and then twice as many")
     asked.add_argument("--rounds", type=int, default=3, help="of which the minimum is printed")

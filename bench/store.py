@@ -11,6 +11,7 @@ import os
 import random
 import subprocess
 import tempfile
+from collections.abc import Iterable, Iterator
 
 from decode import span
 from results import Record, asked_of
@@ -19,38 +20,39 @@ import wire
 IN_BATCH = 10
 
 
-def batch(rng, trace):
+def batch(rng: random.Random, trace: int) -> bytes:
+    """Returns a batch of spans without a parent."""
     return wire.batch("orders", [span(rng, trace, rng.getrandbits(63) | 1, 0) for _ in range(IN_BATCH)])
 
 
-def lines_of(rng, size):
-    """Batches of `size` spans in all, each a trace of its own."""
+def lines_of(rng: random.Random, size: int) -> Iterator[str]:
+    """Returns batches of `size` spans in all, each a trace of its own."""
     return (batch(rng, rng.getrandbits(62) | 1 << 62).hex() + "\n" for _ in range(size // IN_BATCH))
 
 
-def seconds(words, name, runs, status):
-    """Processor time of the program, the minimum of some runs."""
-    best = None
+def seconds(words: list[str], name: str, runs: int, status: int) -> float:
+    """Returns the processor time of the program, the minimum of some runs."""
+    times = []
     for _ in range(runs):
         with open(name, "rb") as stdin:
             run = subprocess.Popen(words, stdin=stdin, stdout=subprocess.DEVNULL)
             _, ended, used = os.wait4(run.pid, 0)
         run.returncode = os.waitstatus_to_exitcode(ended)
         assert run.returncode == status, run.returncode
-        took = used.ru_utime + used.ru_stime
-        best = took if best is None else min(best, took)
-    return best
+        times.append(used.ru_utime + used.ru_stime)
+    return min(times)
 
 
-def seconds_over(words, lines, runs, status=0):
-    """The same over these lines as standard input."""
+def seconds_over(words: list[str], lines: Iterable[str], runs: int, status: int = 0) -> float:
+    """Returns the same over these lines as standard input."""
     with tempfile.NamedTemporaryFile(mode="w") as file:
         file.writelines(lines)
         file.flush()
         return seconds(words, file.name, runs, status)
 
 
-def main():
+def main() -> None:
+    """Prints a row for each number of spans held."""
     asked = asked_of(__doc__)
     asked.add_argument("--sizes", default="1000,10000,100000", help="spans held")
     asked.add_argument("--runs", type=int, default=5, help="of which the minimum is printed")

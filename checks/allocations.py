@@ -20,11 +20,14 @@ It needs Python 3.10, a C compiler, the built program, and the tests built by `r
 last line is `N passed, M failed`.
 """
 import collections
+import functools
 import itertools
 import os
 import subprocess
 import sys
 import tempfile
+from collections.abc import Callable, Iterator
+from typing import NamedTuple
 
 from crates import ROOT, asked_of
 from wire import get, post, post_in_chunks
@@ -44,20 +47,50 @@ QUERIES = [
 ]
 
 
-# The crate, the test, and one that takes as many allocations.
+class Test(NamedTuple):
+    """A test of a crate, and one that takes as many allocations."""
+
+    crate: str
+    name: str
+    as_many: str | None = None
+
+
+class Ran(NamedTuple):
+    """A run of a program: its status, its output, and how many allocations it made."""
+
+    status: int
+    output: bytes
+    allocations: int
+
+
+class Ended(NamedTuple):
+    """How a test ended, and how many allocations it made."""
+
+    how: str
+    allocations: int
+
+
+class Case(NamedTuple):
+    """What is run, how many allocations it makes, and a call that says how a run ends in which the allocation of this number is refused."""
+
+    name: str
+    allocations: int
+    ends: Callable[[int], str]
+
+
 TESTS = [
-    ("wire_tests", "tests::batch_bytes::memory_for_a_batch", None),
-    ("wire_tests", "tests::piece_faults::memory_for_pieces", None),
-    ("wire_tests", "tests::piece_faults::sizes_beyond_the_bytes", None),
-    ("store_tests", "tests::stores::apply_without_memory", "tests::stores::a_store_is_opened"),
-    ("store_tests", "tests::stores::memory_for_answers", None),
-    ("session_tests", "tests::answers::memory_for_a_tree", None),
-    ("session_tests", "tests::answers::memory_for_a_response", None),
-    ("session_tests", "tests::answers::memory_for_parts", "tests::answers::parts_are_made"),
-    ("session_tests", "tests::pipes::memory_for_a_session", None),
-    ("read_side_tests", "tests::rows::admit_all_or_nothing", None),
-    ("read_side_tests", "tests::sent_again::the_one_batch_sent_again", None),
-    ("intake_tests", "tests::rows::closed_before_no_memory", None),
+    Test("wire_tests", "tests::batch_bytes::memory_for_a_batch"),
+    Test("wire_tests", "tests::piece_faults::memory_for_pieces"),
+    Test("wire_tests", "tests::piece_faults::sizes_beyond_the_bytes"),
+    Test("store_tests", "tests::stores::apply_without_memory", "tests::stores::a_store_is_opened"),
+    Test("store_tests", "tests::stores::memory_for_answers"),
+    Test("session_tests", "tests::answers::memory_for_a_tree"),
+    Test("session_tests", "tests::answers::memory_for_a_response"),
+    Test("session_tests", "tests::answers::memory_for_parts", "tests::answers::parts_are_made"),
+    Test("session_tests", "tests::pipes::memory_for_a_session"),
+    Test("read_side_tests", "tests::rows::admit_all_or_nothing"),
+    Test("read_side_tests", "tests::sent_again::the_one_batch_sent_again"),
+    Test("intake_tests", "tests::rows::closed_before_no_memory"),
 ]
 
 # What a test prints that could not go on itself since an allocation was refused: the error that its call gave, by `Debug`.
@@ -69,7 +102,7 @@ SCRIPT_END = ["publish", "learn 1 1", "enter 0", "publish", "publish", "leave 0"
 class Program:
     """A built program with the shim that refuses allocations."""
 
-    def __init__(self, path, folder):
+    def __init__(self, path: str, folder: str) -> None:
         self.path = path
         self.shim = os.path.join(folder, "refuse.so")
         self.count = os.path.join(folder, "count")
@@ -77,21 +110,22 @@ class Program:
         if not os.path.exists(self.shim):
             subprocess.run(["cc", "-O2", "-shared", "-fPIC", "-o", self.shim, source, "-ldl"], check=True)
 
-    def run(self, words, stdin, refuse=0, stderr=None):
-        """Its status, its output, and how many allocations it made."""
+    def run(self, words: list[str], stdin: bytes, refuse: int = 0, stderr: int | None = None) -> Ran:
+        """Runs the program with one allocation refused, or none."""
         env = dict(os.environ, LD_PRELOAD=self.shim, REFUSE_AT=str(refuse), REFUSE_COUNT=self.count)
         done = subprocess.run([self.path, *words], input=stdin, stdout=subprocess.PIPE, stderr=stderr, env=env)
         with open(self.count) as file:
-            return done.returncode, done.stdout, int(file.read())
+            return Ran(done.returncode, done.stdout, int(file.read()))
 
 
-def sample(name):
+def sample(name: str) -> bytes:
+    """Returns the text of a sample."""
     with open(os.path.join(ROOT, "samples", name), "rb") as file:
         return file.read()
 
 
-def responses(output):
-    """The output as whole responses, each by its Content-Length; None if one is cut."""
+def responses(output: bytes) -> list[bytes] | None:
+    """Returns the output as whole responses, each by its Content-Length; None if one is cut."""
     parts = []
     while output:
         head, found, rest = output.partition(b"\r\n\r\n")
@@ -104,8 +138,8 @@ def responses(output):
     return parts
 
 
-def script(batches):
-    """Steps of `play`: each batch is put, taken and published while a reader comes and goes, and then every query is asked."""
+def script(batches: list[bytes]) -> bytes:
+    """Returns steps of `play`: each batch is put, taken and published while a reader comes and goes, and then every query is asked."""
     lines = []
     for batch in batches:
         lines += ["enter 1", "put 0 " + batch.decode(), "take", "publish", "read 1 /api/services", "leave 1"]
@@ -113,46 +147,54 @@ def script(batches):
     return "".join(line + "\n" for line in lines).encode()
 
 
-def is_want(response):
+def is_want(response: bytes) -> bool:
+    """Returns whether a response says that memory ran out."""
     return response.startswith(b"HTTP/1.1 500 ") and response.endswith(WANT)
 
 
-def lines_end(program, words, stdin, whole, number):
-    """How a run of `get` or `play` ends: "status 5", "same" or "wrong"."""
+def lines_end(program: Program, words: list[str], stdin: bytes, whole: Ran, number: int) -> str:
+    """Returns how a run of `get` or `play` ends: "status 5", "same" or "wrong"."""
     status, output, _ = program.run(words, stdin, number)
     if status == 5:
-        return "status 5" if whole[1].startswith(output) else "wrong"
-    return "same" if (status, output) == whole[:2] else "wrong"
+        return "status 5" if whole.output.startswith(output) else "wrong"
+    return "same" if (status, output) == (whole.status, whole.output) else "wrong"
 
 
-def pipe_ends(program, requests, whole, number):
-    """How a session ends: "status 5", "a response 500", "same" or "wrong"."""
+def pipe_ends(program: Program, requests: list[bytes], whole: Ran, number: int) -> str:
+    """Returns how a session ends: "status 5", "a response 500", "same" or "wrong"."""
     status, output, _ = program.run(["pipe"], b"".join(requests), number)
     got = responses(output)
     if got is None or status not in (0, 5):
         return "wrong"
     refused = [place for place, response in enumerate(got) if is_want(response)]
-    wanted = responses(whole[1])
+    wanted = responses(whole.output)
     if refused:
         left = [request for place, request in enumerate(requests) if place != refused[0]]
-        wanted = responses(program.run(["pipe"], b"".join(left))[1])
+        wanted = responses(program.run(["pipe"], b"".join(left)).output)
+        assert wanted is not None
         wanted.insert(refused[0], got[refused[0]])
+    assert wanted is not None
     if len(refused) > 1 or got != (wanted if status == 0 else wanted[: len(got)]):
         return "wrong"
     return "status 5" if status == 5 else "a response 500" if refused else "same"
 
 
-def test_ends(tests, name, number=0):
-    """How a test ends: "passed", "an error" (it could not go on itself for want of memory, and says so) or "wrong", and how many
+def test_ends(tests: Program, name: str, number: int = 0) -> Ended:
+    """Returns how a test ends: "passed", "an error" (it could not go on itself for want of memory, and says so) or "wrong", and how many
     allocations it made."""
     status, output, count = tests.run([name], b"", number, subprocess.STDOUT)
     if status == 0:
-        return ("passed" if b"test result: ok" in output else "wrong"), count
+        return Ended("passed" if b"test result: ok" in output else "wrong", count)
     is_expected = b"its result gives status" in output and SHORT_OF_MEMORY & set(output.splitlines())
-    return ("an error" if is_expected else "wrong"), count
+    return Ended("an error" if is_expected else "wrong", count)
 
 
-def test_cases(folder, only, built):
+def how_by(tests: Program, name: str) -> Callable[[int], str]:
+    """Returns a call that says how a test ends in which the allocation of a number is refused."""
+    return lambda number: test_ends(tests, name, number).how
+
+
+def test_cases(folder: str, only: str, built: str | None) -> Iterator[Case]:
     """Yields what cases() yields, of each test; the counts of a pair are compared by one run more."""
     for crate, name, as_many in TESTS:
         if only not in f"{crate}::{name}":
@@ -161,37 +203,39 @@ def test_cases(folder, only, built):
         tests = Program(path, folder)
         ends, count = test_ends(tests, name)
         assert ends == "passed", (crate, name, ends)
-        yield f"{crate} {name}", count, lambda n, t=tests, it=name: test_ends(t, it, n)[0]
+        yield Case(f"{crate} {name}", count, how_by(tests, name))
         if as_many:
             other = test_ends(tests, as_many)
             kind = "as many" if other == ("passed", count) else "wrong"
-            print(f"{crate} {as_many}: {other[1]} allocations, {kind}")
+            print(f"{crate} {as_many}: {other.allocations} allocations, {kind}")
             if kind == "wrong":
-                yield f"{crate} {as_many}", 1, lambda n: "wrong"
+                yield Case(f"{crate} {as_many}", 1, lambda n: "wrong")
 
 
-def cases(program):
+def cases(program: Program) -> Iterator[Case]:
+    """Yields the runs of the program."""
     for name in ["first.hex", "shop.hex", "apache.hex", "faults.hex"]:
         stdin = sample(name)
         words = ["get", "--traces", "2", "1"]
         whole = program.run(words, stdin)
-        yield f"get {name}", whole[2], lambda n, w=words, s=stdin, o=whole: lines_end(program, w, s, o, n)
+        yield Case(f"get {name}", whole.allocations, functools.partial(lines_end, program, words, stdin, whole))
     stdin = script([line for name in ["first.hex", "shop.hex", "faults.hex"] for line in sample(name).split()])
     words = ["play", "--traces", "2"]
     played = program.run(words, stdin)
-    yield "play", played[2], lambda n: lines_end(program, words, stdin, played, n)
+    yield Case("play", played.allocations, functools.partial(lines_end, program, words, stdin, played))
     bodies = [bytes.fromhex(line.decode()) for name in ["first.hex", "shop.hex", "apache.hex"] for line in sample(name).split()]
     requests = [part for body in bodies for part in (post(body), get("/api/traces/1"))] + [get(target) for target in QUERIES]
     whole = program.run(["pipe"], b"".join(requests))
-    assert whole[0] == 0 and len(responses(whole[1])) == len(requests), whole
-    yield "pipe", whole[2], lambda n: pipe_ends(program, requests, whole, n)
+    assert whole.status == 0 and len(responses(whole.output) or []) == len(requests), whole
+    yield Case("pipe", whole.allocations, functools.partial(pipe_ends, program, requests, whole))
     chunked = [part for body in bodies for part in (post_in_chunks(body, 7, b";a=b", b"A: b\r\n"), get("/api/traces/1"))]
     answered = program.run(["pipe"], b"".join(chunked))
     assert answered[:2] == program.run(["pipe"], b"".join(requests[: len(chunked)]))[:2], answered
-    yield "pipe in chunks", answered[2], lambda n: pipe_ends(program, chunked, answered, n)
+    yield Case("pipe in chunks", answered.allocations, functools.partial(pipe_ends, program, chunked, answered))
 
 
-def main():
+def main() -> None:
+    """Refuses each allocation of each run in turn, and prints how they ended."""
     asked = asked_of(__doc__)
     asked.add_argument("--every", type=int, default=1, help="only each N-th allocation")
     asked.add_argument("--tests", help="the folder of the built tests, if not those of their crates")

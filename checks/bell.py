@@ -18,40 +18,74 @@ that ends with everybody asleep, if there is one; the exit status is 1 then.
 
 import collections
 import sys
+from collections.abc import Iterator
+from typing import Any, NamedTuple
 
 from crates import asked_of
 
 # Where a ring goes on after each of its steps, by form.
-RINGS = {"kept": ("count", "look", "take", "count again", "wake"), "once": ("count", "look", "take", "wake"), "flag-first": ("take first", "count", "wake if taken")}
-
-State = collections.namedtuple("State", "queue closed bells replies threads")
-Bell = collections.namedtuple("Bell", "rings awaited")
-# What a thread does: its place in its loop, the step of a ring or None, the count that it has read, its jobs that are left, and the bell that it rings.
-Thread = collections.namedtuple("Thread", "at step read left rung")
+RINGS: dict[str, tuple[str, ...]] = {
+    "kept": ("count", "look", "take", "count again", "wake"),
+    "once": ("count", "look", "take", "wake"),
+    "flag-first": ("take first", "count", "wake if taken"),
+}
 CLERK = 0
 
 
-def begun(seats, jobs):
+class Bell(NamedTuple):
+    """The count of a bell's rings, and its flag."""
+
+    rings: int
+    awaited: int
+
+
+class Thread(NamedTuple):
+    """What a thread does: its place in its loop, the step of a ring or None, the count that it has read, its jobs that are left, and the
+    bell that it rings."""
+
+    at: str
+    step: int | None
+    read: int
+    left: int
+    rung: int
+
+
+class State(NamedTuple):
+    """The seats of the jobs that wait, whether the desk is closed, and the bells, the answers and the threads, the clerk's first."""
+
+    queue: tuple[int, ...]
+    closed: bool
+    bells: tuple[Bell, ...]
+    replies: tuple[bool, ...]
+    threads: tuple[Thread, ...]
+
+
+# Of each state how it was reached: the state before and the step; None for the first one.
+Came = dict[State, tuple[State, str] | None]
+
+
+def begun(seats: int, jobs: int) -> State:
     """Returns the first state: nobody has done anything."""
     threads = (Thread("read", None, 0, 0, 0), *(Thread("push", None, 0, jobs, 0) for _ in range(seats)))
     return State((), False, (Bell(0, 0),) * (seats + 1), (False,) * (seats + 1), threads)
 
 
-def put(values, at, value):
+def put(values: tuple[Any, ...], at: int, value: Any) -> tuple[Any, ...]:
     """Returns the values with another one at a place."""
     return values[:at] + (value,) + values[at + 1 :]
 
 
-def woken(state, bell):
+def woken(state: State, bell: int) -> tuple[Thread, ...]:
     """Returns the threads after those that sleep at the bell were woken."""
     return tuple(it._replace(at="read") if it.at == "asleep" and at == bell else it for at, it in enumerate(state.threads))
 
 
-def rung(state, at, form):
+def rung(state: State, at: int, form: str) -> State:
     """Returns the state after one step of the ring that a thread makes."""
     thread = state.threads[at]
+    at_step = thread.step or 0
     steps, bell = RINGS[form], state.bells[thread.rung]
-    step = steps[thread.step]
+    step = steps[at_step]
     ends = step.startswith("wake")
     if step.startswith("count"):
         bell = bell._replace(rings=bell.rings + 1)
@@ -65,10 +99,10 @@ def rung(state, at, form):
     state = state._replace(bells=put(state.bells, thread.rung, bell))
     if wakes:
         state = state._replace(threads=woken(state, thread.rung))
-    return state._replace(threads=put(state.threads, at, thread._replace(step=None if ends else thread.step + 1)))
+    return state._replace(threads=put(state.threads, at, thread._replace(step=None if ends else at_step + 1)))
 
 
-def seat_step(state, at):
+def seat_step(state: State, at: int) -> State | None:
     """Returns the state after a seat's step between two rings."""
     thread, bell = state.threads[at], state.bells[at]
     if thread.at == "push":
@@ -94,7 +128,7 @@ def seat_step(state, at):
     return state._replace(threads=put(state.threads, at, thread))
 
 
-def clerk_step(state):
+def clerk_step(state: State) -> State | None:
     """Returns the state after the clerk's step between two rings."""
     thread, bell = state.threads[CLERK], state.bells[CLERK]
     if thread.at == "read":
@@ -114,9 +148,9 @@ def clerk_step(state):
     return state._replace(threads=put(state.threads, CLERK, thread))
 
 
-def small(state):
+def small(state: State) -> State:
     """Returns the state with counts of rings from the least that somebody may still compare, so that equal states are seen to be equal."""
-    def least(at):
+    def least(at: int) -> int:
         thread = state.threads[at]
         return min(thread.read, state.bells[at].rings) if thread.at in ("look", "announce", "park", "asleep") else state.bells[at].rings
 
@@ -126,7 +160,7 @@ def small(state):
     return state._replace(bells=bells, threads=threads)
 
 
-def next_states(state, form):
+def next_states(state: State, form: str) -> Iterator[tuple[str, State]]:
     """Yields each thread's name with the state after its next step."""
     for at, thread in enumerate(state.threads):
         name = "clerk" if at == CLERK else f"seat {at}"
@@ -136,10 +170,11 @@ def next_states(state, form):
             yield f"{name}: {thread.at}", after
 
 
-def search(seats, jobs, form):
+def search(seats: int, jobs: int, form: str) -> tuple[int, list[str] | None]:
     """Returns the number of states, and a shortest schedule that ends with somebody asleep for ever, or None."""
     first = small(begun(seats, jobs))
-    came, todo = {first: None}, collections.deque([first])
+    came: Came = {first: None}
+    todo = collections.deque([first])
     while todo:
         state = todo.popleft()
         found = list(next_states(state, form))
@@ -152,16 +187,17 @@ def search(seats, jobs, form):
     return len(came), None
 
 
-def schedule(came, state):
+def schedule(came: Came, state: State) -> list[str]:
     """Returns the steps that lead to a state."""
     steps = []
-    while came[state]:
-        state, said = came[state]
+    while before := came[state]:
+        state, said = before
         steps.append(said)
     return steps[::-1]
 
 
-def main():
+def main() -> int:
+    """Searches the schedules of a form, and prints what it found."""
     words = asked_of(__doc__, None)
     words.add_argument("--seats", type=int, default=2, metavar="N", help="the number of seats")
     words.add_argument("--jobs", type=int, default=2, metavar="N", help="the number of jobs of each")

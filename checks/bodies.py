@@ -3,6 +3,7 @@
 import dataclasses
 import pathlib
 import re
+from collections.abc import Iterable
 
 from edits import apply
 
@@ -13,6 +14,10 @@ OWNER = re.compile(r"(?:pub(?:\([a-z ]+\))? )?(?:impl|trait)\b")
 ABOVE = re.compile(r" *(?:#\[|//)")
 
 
+# A line of a crate: its file and its number, from 0.
+Place = tuple[str, int]
+
+
 @dataclasses.dataclass(frozen=True)
 class Function:
     """A function: its file, its lines by number, and the names that a check may give it, the most exact first and its module's last."""
@@ -21,15 +26,15 @@ class Function:
     begins: int
     opens: int
     ends: int
-    names: tuple
+    names: tuple[str, ...]
     stands_alone: bool
 
-    def has_line(self, path, number):
-        """Whether this line is one of the function's."""
+    def has_line(self, path: str, number: int) -> bool:
+        """Returns whether this line is one of the function's."""
         return path == self.path and self.begins <= number <= self.ends
 
-    def is_of_body(self, number, was, now):
-        """Whether a change of this line is a change of the body."""
+    def is_of_body(self, number: int, was: str, now: str) -> bool:
+        """Returns whether a change of this line is a change of the body."""
         return self.opens < number < self.ends or (number == self.opens and now.startswith(was))
 
 
@@ -38,21 +43,21 @@ class Change:
     """What an edit changes: lines, by file and number, and the functions around them; whether it changes their bodies alone."""
 
     edit: pathlib.Path
-    lines: dict
-    functions: tuple
+    lines: dict[Place, str]
+    functions: tuple[Function, ...]
     is_of_bodies: bool
 
     @property
-    def files(self):
-        """The files that it changes."""
+    def files(self) -> set[str]:
+        """Returns the files that it changes."""
         return {path for path, _ in self.lines}
 
-    def has_line(self, path, number):
-        """Whether this line is in a function that it changes."""
+    def has_line(self, path: str, number: int) -> bool:
+        """Returns whether this line is in a function that it changes."""
         return any(it.has_line(path, number) for it in self.functions)
 
-    def shares_with(self, other):
-        """Whether both change a function, by its place or by a name that a check may give it."""
+    def shares_with(self, other: "Change") -> bool:
+        """Returns whether both change a function, by its place or by a name that a check may give it."""
         return any(one.begins == it.begins and one.path == it.path or {*one.names[:-1]} & {*it.names[:-1]}
                    for one in self.functions for it in other.functions)
 
@@ -60,12 +65,12 @@ class Change:
 # ---- the functions of a file
 
 
-def indent_of(line):
+def indent_of(line: str) -> int:
     """Returns how far a line is indented."""
     return len(line) - len(line.lstrip(" "))
 
 
-def function_around(lines, at):
+def function_around(lines: list[str], at: int) -> int | None:
     """Returns the number of the line where the function begins whose text has this line, or None."""
     closed = len(lines[at]) + 1
     for number in range(at, -1, -1):
@@ -78,7 +83,7 @@ def function_around(lines, at):
     return None
 
 
-def body_of(lines, begins):
+def body_of(lines: list[str], begins: int) -> tuple[int, int]:
     """Returns the numbers of the lines that open and close a function's body, twice that of its first line if they can't be told. By the layout of
     `rt fmt` both are indented as the first line is, and nothing between them is."""
     indent, opens = indent_of(lines[begins]), None
@@ -95,8 +100,8 @@ def body_of(lines, begins):
     return begins, begins
 
 
-def is_in_cycle(lines, begins):
-    """Whether an attribute above a function's first line puts it into a cycle of calls, which has one proof."""
+def is_in_cycle(lines: list[str], begins: int) -> bool:
+    """Returns whether an attribute above a function's first line puts it into a cycle of calls, which has one proof."""
     number = begins - 1
     while number >= 0 and ABOVE.match(lines[number]):
         if "#[cycle(" in lines[number]:
@@ -105,18 +110,25 @@ def is_in_cycle(lines, begins):
     return False
 
 
-def function_at(lines, begins, path):
+def first_line(line: str) -> re.Match[str]:
+    """Returns the parts of a line with which a function begins."""
+    found = FUNCTION.match(line)
+    assert found, line
+    return found
+
+
+def function_at(lines: list[str], begins: int, path: str) -> Function:
     """Returns the function that begins at this line."""
     names = (*names_of(lines, begins, module_of(path)), module_of(path))
     opens, ends = body_of(lines, begins)
-    stands_alone = bool(FUNCTION.match(lines[begins])["const"]) or is_in_cycle(lines, begins) or len(names) == 1
+    stands_alone = bool(first_line(lines[begins])["const"]) or is_in_cycle(lines, begins) or len(names) == 1
     return Function(path, begins, opens, ends, names, stands_alone)
 
 
 # ---- the names of a function
 
 
-def without_brackets(text):
+def without_brackets(text: str) -> str:
     """Returns a type's text without what its angle brackets hold."""
     depth, kept = 0, []
     for before, letter in zip(" " + text, text):
@@ -127,7 +139,7 @@ def without_brackets(text):
     return "".join(kept)
 
 
-def without_leading(head):
+def without_leading(head: str) -> str:
     """Returns what follows the parameters that an impl begins with."""
     depth = 0
     for at, letter in enumerate(head):
@@ -138,13 +150,13 @@ def without_leading(head):
     return ""
 
 
-def last_name(text):
+def last_name(text: str) -> str:
     """Returns the last name of a path, without references and arguments."""
     names = re.findall(r"\w+", re.sub(r"&\s*(?:'\w+ )?(?:mut )?", "", without_brackets(text)))
     return names[-1] if names else ""
 
 
-def owners_of(header):
+def owners_of(header: str) -> list[str]:
     """Returns the names that a check may give the type of an impl or a trait that begins so."""
     head = re.sub(r"^(?:pub(?:\([a-z ]+\))? )?(?:impl|trait)\b", "", header.partition("{")[0].partition(" where ")[0]).strip()
     if header.lstrip().startswith(("trait", "pub trait")):
@@ -158,15 +170,15 @@ def owners_of(header):
     return [plain + argument, plain] if argument else [plain]
 
 
-def module_of(path):
+def module_of(path: str) -> str:
     """Returns the path of a file's module below the crate."""
     parts = pathlib.PurePosixPath(path).with_suffix("").parts[1:]
     return "::".join(part for part in parts if part not in ("lib", "main", "mod"))
 
 
-def names_of(lines, at, module):
+def names_of(lines: list[str], at: int, module: str) -> list[str]:
     """Returns the names that a check may give the function that begins at this line."""
-    begins, before = FUNCTION.match(lines[at]), f"{module}::" if module else ""
+    begins, before = first_line(lines[at]), f"{module}::" if module else ""
     if not begins["indent"]:
         return [before + begins["name"]]
     owner = next((number for number in range(at, -1, -1) if OWNER.match(lines[number])), None)
@@ -180,7 +192,7 @@ def names_of(lines, at, module):
 # ---- what an edit changes
 
 
-def lines_changed(edit, crate):
+def lines_changed(edit: pathlib.Path, crate: pathlib.Path) -> dict[Place, tuple[str, str]]:
     """Returns the lines that an edit changes, by file and number, each with its text before and after; an edit keeps the count of lines."""
     found = {}
     for path, text in apply(edit, crate).items():
@@ -191,10 +203,10 @@ def lines_changed(edit, crate):
     return found
 
 
-def leaves_the_rest(changed, function_of):
-    """Whether changes are of bodies alone: each in the body of a function that may be tried beside others, no function more, and as many
+def leaves_the_rest(changed: dict[Place, tuple[str, str]], function_of: dict[Place, Function]) -> bool:
+    """Returns whether changes are of bodies alone: each in the body of a function that may be tried beside others, no function more, and as many
     brackets open as before."""
-    opened = {}
+    opened: dict[Function, int] = {}
     for (path, number), (was, now) in changed.items():
         function = function_of.get((path, number))
         if function is None or function.stands_alone or not function.is_of_body(number, was, now):
@@ -206,21 +218,22 @@ def leaves_the_rest(changed, function_of):
     return not any(opened.values())
 
 
-def change_of(edit, crate):
+def change_of(edit: pathlib.Path, crate: pathlib.Path) -> Change:
     """Returns what an edit changes; raises Fault if it doesn't apply."""
-    changed, function_of = lines_changed(edit, crate), {}
+    changed = lines_changed(edit, crate)
+    function_of: dict[Place, Function] = {}
     for path, number in changed:
         lines = (crate / path).read_text(encoding="utf-8").split("\n") if path.startswith("src/") else []
         begins = function_around(lines, number) if lines else None
         if begins is not None:
             function_of[path, number] = function_at(lines, begins, path)
-    lines = {place: now for place, (_, now) in changed.items()}
-    return Change(edit, lines, tuple(dict.fromkeys(function_of.values())), leaves_the_rest(changed, function_of))
+    after = {place: now for place, (_, now) in changed.items()}
+    return Change(edit, after, tuple(dict.fromkeys(function_of.values())), leaves_the_rest(changed, function_of))
 
 
-def rounds_of(changes):
+def rounds_of(changes: Iterable[Change]) -> list[list[Change]]:
     """Returns the changes in as few lists as a first fit finds; no two of a list change one function."""
-    rounds = []
+    rounds: list[list[Change]] = []
     for change in sorted(changes, key=lambda it: -len(it.functions)):
         room = next((it for it in rounds if not any(change.shares_with(other) for other in it)), None)
         if room is None:

@@ -20,14 +20,15 @@ from crates import asked_of
 TEST = "tests::ending::waiting_jobs_handed_back"
 
 
-def main():
+def main() -> None:
+    """Refuses each allocation of the test in turn, and prints the counts."""
     asked = asked_of(__doc__, "crates/intake_tests/out/intake_tests_tests")
     options = asked.parse_args()
     with tempfile.TemporaryDirectory() as folder:
         tests = Program(options.bin, folder)
         ends, count = test_ends(tests, TEST)
         assert ends == "passed", ends
-        seen = [test_ends(tests, TEST, number)[0] for number in range(1, count + 1)]
+        seen = [test_ends(tests, TEST, number).how for number in range(1, count + 1)]
     counts = collections.Counter(seen)
     short = [at for at, ends in enumerate(seen, 1) if ends == "an error"]
     print(", ".join(f"{kind} {counts[kind]}" for kind in sorted(counts)), f"(an error last at allocation {short[-1] if short else 0})")

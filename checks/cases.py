@@ -5,7 +5,7 @@
 
 Each case's output is compared by `rt try --cases`, and its exit status with cases/statuses.txt (0 if the
 case isn't there). A line is printed for each case that fails, then `N passed, M failed`; the exit
-status is 0 only if none failed. cases/README.md says how a case is added.
+status is 0 only if none failed. CONTRIBUTING.md (Cases and samples) says how a case is added.
 """
 
 import re
@@ -13,7 +13,9 @@ import shutil
 import subprocess
 import sys
 import tempfile
+from collections.abc import Iterator
 from pathlib import Path
+from typing import NamedTuple
 
 from crates import asked_of
 
@@ -28,8 +30,16 @@ CALLED = {"Usage: jaeger_one <COMMAND>": "Usage: program <COMMAND>",
 LINE = re.compile(r"case=(\S+) run=(\S+) (?:status=(\d+) )?.*?(?:output=(\S+) )?proved=no")
 
 
-def statuses():
-    """The exit status that is wanted of each case that doesn't end with 0."""
+class Case(NamedTuple):
+    """What `rt try` says of a case: how it ran, its exit status if it ended, and of its output `same` or `differs`."""
+
+    run: str
+    status: str | None
+    output: str | None
+
+
+def statuses() -> dict[str, int]:
+    """Returns the exit status that is wanted of each case that doesn't end with 0."""
     wanted = {}
     for line in (CASES / "statuses.txt").read_text().splitlines():
         name, status = line.split()
@@ -37,14 +47,14 @@ def statuses():
     return wanted
 
 
-def inputs(subject):
-    """The names of a subject's cases that have three files: each is there, or some are missing."""
+def inputs(subject: str) -> list[str]:
+    """Returns the names of a subject's cases that have three files: each is there, or some are missing."""
     files = [it for it in (CASES / subject).iterdir() if it.suffix != TRANSCRIPT]
     return sorted({it.name.split(".")[0] for it in files})
 
 
-def runs(transcript):
-    """The runs of a transcript, each the arguments and the output. A line with the prompt begins one."""
+def runs(transcript: Path) -> Iterator[tuple[list[str], str]]:
+    """Yields the runs of a transcript, each the arguments and the output. A line with the prompt begins one."""
     lines = transcript.read_text().splitlines(keepends=True)
     starts = [at for at, line in enumerate(lines) if line.startswith(PROMPT)]
     for start, end in zip(starts, [*starts[1:], len(lines)]):
@@ -54,8 +64,8 @@ def runs(transcript):
         yield lines[start].removeprefix(PROMPT).split(), output
 
 
-def gather_runs(subject, room):
-    """Copies the runs of a subject's transcripts as cases without input. Gives each one's name by its file's."""
+def gather_runs(subject: str, room: str) -> dict[str, str]:
+    """Copies the runs of a subject's transcripts as cases without input. Returns each one's name by its file's."""
     names = {}
     for transcript in sorted((CASES / subject).glob(f"*{TRANSCRIPT}")):
         for number, (arguments, output) in enumerate(runs(transcript), 1):
@@ -67,8 +77,8 @@ def gather_runs(subject, room):
     return names
 
 
-def gather(subjects, room):
-    """Copies the cases into one folder, as one build takes them. Gives each one's name by its file's."""
+def gather(subjects: list[str], room: str) -> dict[str, str]:
+    """Copies the cases into one folder, as one build takes them. Returns each one's name by its file's."""
     names = {}
     for subject in subjects:
         for name in inputs(subject):
@@ -81,18 +91,17 @@ def gather(subjects, room):
     return names
 
 
-def fault(case, wanted):
-    """What is wrong with a case, or nothing."""
-    run, status, output = case
-    if run != "ended":
-        return f"run={run}"
-    if int(status) != wanted:
-        return f"it ended with status {status}, and not {wanted}"
-    return "its output differs" if output == "differs" else ""
+def fault(case: Case, wanted: int) -> str:
+    """Returns what is wrong with a case, or nothing."""
+    if case.run != "ended":
+        return f"run={case.run}"
+    if case.status != str(wanted):
+        return f"it ended with status {case.status}, and not {wanted}"
+    return "its output differs" if case.output == "differs" else ""
 
 
-def tried(room):
-    """What `rt try` says of the cases of a folder: of each its run, status and output.
+def tried(room: str) -> tuple[str, dict[str, Case]]:
+    """Returns what `rt try` says of the cases of a folder, all of it and of each case.
 
     Its interpreter can't run a program that reads its arguments, so it gets a single step.
     """
@@ -100,10 +109,11 @@ def tried(room):
     ran = subprocess.run(words, cwd=TOP / "crates/jaeger_one", stdin=subprocess.DEVNULL,
                          stdout=subprocess.PIPE, stderr=subprocess.STDOUT)
     said = ran.stdout.decode(errors="replace")
-    return said, {it[1]: it.groups()[1:] for it in LINE.finditer(said)}
+    return said, {it[1]: Case(it[2], it[3], it[4]) for it in LINE.finditer(said)}
 
 
-def main():
+def main() -> int:
+    """Runs the cases, and prints each that fails."""
     asked = asked_of(__doc__, None)
     folders = sorted(it.name for it in CASES.iterdir() if it.is_dir())
     asked.add_argument("folders", nargs="*", metavar="FOLDER", help="folders of cases/; all if none is named")

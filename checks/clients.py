@@ -13,6 +13,7 @@ Needs Debian's packages python3-thrift, thrift-compiler (for samples/jaeger.thri
 is missing; nothing is installed. With ruby-jaeger-client, and with golang-go and golang-opentelemetry-otel-dev of Debian 12, there are
 more checks; without them they are left out, and a line says so. Go builds exporter.go in a few seconds of a processor.
 """
+import functools
 import json
 import os
 import shutil
@@ -22,6 +23,8 @@ import sys
 import tempfile
 import urllib.error
 import urllib.request
+from collections.abc import Callable
+from typing import Any, NoReturn
 
 from crates import ROOT, asked_of
 from refusing import ACCEPTED, REFUSALS, Answering, bodies_of, when_refused
@@ -30,15 +33,22 @@ from servers import Failed, Server
 TRACE = 0x0102030405060708_F1F2F3F4F5F6F7F8
 OTHER = 0x00000000000000AA_00000000000000BB
 LOW = 0xDEAD
+KIND = "application/x-thrift"
 TEXT = 'gr\u00fcn "quoted" \\ back\tslash \u4f60\u597d \U0001f680\n\x01'
 
 
-def missing(package):
+# The ids that a client printed, and the lines of its log; and a call that runs a client on a URL.
+Said = tuple[list[str], list[str]]
+Run = Callable[..., Said]
+
+
+def missing(package: str) -> NoReturn:
+    """Says which package is missing, and ends."""
     print(f"missing: Debian's package {package} (apt-get install {package})")
     sys.exit(2)
 
 
-def with_thrift():
+def with_thrift() -> None:
     """Goes on in an interpreter that has Apache Thrift's library: Debian's package is for /usr/bin/python3."""
     try:
         import thrift  # noqa: F401
@@ -54,10 +64,13 @@ def with_thrift():
 
 
 class Checks:
-    def __init__(self):
+    """Counts the checks that passed and that failed."""
+
+    def __init__(self) -> None:
         self.passed = self.failed = 0
 
-    def same(self, name, found, wanted):
+    def same(self, name: str, found: object, wanted: object) -> None:
+        """Counts a check, and prints what came of it."""
         if found == wanted:
             self.passed += 1
             print(f"ok {name}", flush=True)
@@ -65,8 +78,8 @@ class Checks:
             self.failed += 1
             print(f"FAILED {name}: {found!r} is not {wanted!r}", flush=True)
 
-    def each(self, client, call):
-        """The checks of one client; what it raises is one that failed."""
+    def each(self, client: str, call: Callable[[], None]) -> None:
+        """Makes the checks of one client; what it raises is one that failed."""
         try:
             call()
         except Exception as fault:  # a client's own faults are of many types
@@ -77,43 +90,50 @@ class Checks:
 class Queried(Server):
     """A server whose answers are read as JSON."""
 
-    def url(self, target):
+    def url(self, target: str) -> str:
+        """Returns the URL of a target."""
         return f"http://127.0.0.1:{self.port}{target}"
 
-    def get(self, target):
-        """The status of an answer, and its JSON."""
+    def get(self, target: str) -> tuple[int, Any]:
+        """Returns the status of an answer, and its JSON."""
         try:
             with urllib.request.urlopen(self.url(target), timeout=10) as response:
                 return response.status, json.load(response)
         except urllib.error.HTTPError as fault:
             return fault.code, json.load(fault)
 
-    def trace(self, trace):
+    def trace(self, trace: int) -> Any:
+        """Returns a trace as it is answered."""
         status, answer = self.get(f"/api/traces/{trace:x}")
         if status != 200:
             raise ValueError(f"trace {trace:x} is answered {status} {answer}")
         return answer["data"][0]
 
 
-def trace_text(trace):
+def trace_text(trace: int) -> str:
+    """Returns a trace's id as it is shown."""
     return f"{trace:032x}" if trace >> 64 else f"{trace:016x}"
 
 
-def signed(number):
+def signed(number: int) -> int:
+    """Returns an id as a number with a sign of 64 bits."""
     return number - (1 << 64) if number >> 63 else number
 
 
-def shown(key, kind, value):
+def shown(key: str, kind: str, value: Any) -> dict[str, Any]:
+    """Returns a tag as it is shown."""
     return {"key": key, "type": kind, "value": value}
 
 
-def double(value):
+def double(value: float) -> str:
+    """Returns a number as it is shown, by its bytes."""
     return struct.pack(">d", value).hex()
 
 
 # Apache Thrift's library.
 
-def generated(folder):
+def generated(folder: str) -> Any:
+    """Generates the code of Apache Thrift's library for the batches, and returns it."""
     subprocess.run(["thrift", "--gen", "py", "-out", folder, os.path.join(ROOT, "samples", "jaeger.thrift")],
                    check=True, stderr=subprocess.DEVNULL)
     sys.path.insert(0, folder)
@@ -121,8 +141,8 @@ def generated(folder):
     return jaeger.ttypes
 
 
-def tags(j):
-    """A tag of each type, and how each is shown."""
+def tags(j: Any) -> tuple[list[Any], list[dict[str, Any]]]:
+    """Returns a tag of each type, and how each is shown."""
     sent = [
         j.Tag(key="text", vType=j.TagType.STRING, vStr=TEXT),
         j.Tag(key="empty", vType=j.TagType.STRING, vStr=""),
@@ -148,12 +168,13 @@ def tags(j):
     return sent, wanted
 
 
-def halves(trace):
+def halves(trace: int) -> dict[str, int]:
+    """Returns the fields of a trace's id."""
     return {"traceIdLow": signed(trace & (1 << 64) - 1), "traceIdHigh": signed(trace >> 64)}
 
 
-def full_batch(j):
-    """Every field set: a span with a parent and references of both kinds, and a plain one of a trace whose high half is 0."""
+def full_batch(j: Any) -> Any:
+    """Returns a batch with every field set: a span with a parent and references of both kinds, and a plain one of a trace whose high half is 0."""
     sent, _ = tags(j)
     own, other = halves(TRACE), halves(OTHER)
     full = j.Span(
@@ -168,7 +189,8 @@ def full_batch(j):
                    stats=j.Statistics(dropped=3, byKind={"full": [1, 2], "late": []}, seen={4}))
 
 
-def by_thrift(checks, server, j):
+def by_thrift(checks: Checks, server: Queried, j: Any) -> None:
+    """Checks what Apache Thrift's library sent."""
     from thrift.protocol.TBinaryProtocol import TBinaryProtocol, TBinaryProtocolAccelerated
     from thrift.transport.THttpClient import THttpClient
 
@@ -178,8 +200,22 @@ def by_thrift(checks, server, j):
     transport.flush()
     checks.same("thrift: the batch's status", transport.code, 202)
     checks.same("thrift: the body behind it", transport.read(1), b"")
-    _, wanted_tags = tags(j)
-    trace = server.trace(TRACE)
+    full_shown(checks, server.trace(TRACE), tags(j)[1])
+    plain_shown(checks, server.trace(LOW))
+    # The same transport again, by the accelerated protocol (in C, where it is there), in batches that grow.
+    for count in (1, 10, 1000):
+        spans = [j.Span(traceIdLow=count, traceIdHigh=0, spanId=n + 1, parentSpanId=0, operationName=f"op {n}", flags=1,
+                        startTime=n, duration=1, tags=tags(j)[0]) for n in range(count)]
+        j.Batch(process=j.Process(serviceName="many"), spans=spans).write(TBinaryProtocolAccelerated(transport))
+        transport.flush()
+        checks.same(f"thrift: a batch of {count} spans", transport.code, 202)
+        found = [span["operationName"] for span in server.trace(count)["spans"]]
+        checks.same(f"thrift: all {count} are found", found, [f"op {n}" for n in range(count)])
+    transport.close()
+
+
+def full_shown(checks: Checks, trace: Any, wanted_tags: list[dict[str, Any]]) -> None:
+    """Checks how the span of `full_batch` is shown that has every field."""
     own, other = trace_text(TRACE), trace_text(OTHER)
     checks.same("thrift: the trace's id, both halves", trace["traceID"], own)
     checks.same("thrift: the number of spans", len(trace["spans"]), 1)
@@ -210,27 +246,20 @@ def by_thrift(checks, server, j):
     checks.same("thrift: the service", process["serviceName"], "bank " + TEXT)
     checks.same("thrift: tags of the process", process["tags"], wanted_tags)
     checks.same("thrift: keys of a span", sorted(span), sorted([*wanted, "tags", "logs", "processID"]))
-    second = server.trace(LOW)
-    checks.same("thrift: the id of a trace whose high half is 0", second["traceID"], trace_text(LOW))
-    plain = dict(second["spans"][0])
+
+
+def plain_shown(checks: Checks, trace: Any) -> None:
+    """Checks how the span of `full_batch` is shown that has the required fields alone."""
+    checks.same("thrift: the id of a trace whose high half is 0", trace["traceID"], trace_text(LOW))
+    plain = dict(trace["spans"][0])
     del plain["processID"]
     checks.same("thrift: a span of required fields alone", plain, {
         "traceID": trace_text(LOW), "spanID": f"{1:016x}", "operationName": "", "references": [], "flags": 0, "startTime": 0,
         "duration": 0, "tags": [], "logs": [], "warnings": None})
-    # The same transport again, by the accelerated protocol (in C, where it is there), in batches that grow.
-    for count in (1, 10, 1000):
-        spans = [j.Span(traceIdLow=count, traceIdHigh=0, spanId=n + 1, parentSpanId=0, operationName=f"op {n}", flags=1,
-                        startTime=n, duration=1, tags=tags(j)[0]) for n in range(count)]
-        j.Batch(process=j.Process(serviceName="many"), spans=spans).write(TBinaryProtocolAccelerated(transport))
-        transport.flush()
-        checks.same(f"thrift: a batch of {count} spans", transport.code, 202)
-        found = [span["operationName"] for span in server.trace(count)["spans"]]
-        checks.same(f"thrift: all {count} are found", found, [f"op {n}" for n in range(count)])
-    transport.close()
 
 
-def thrift_said(j, url):
-    """What Apache Thrift's library says of two batches: the statuses other than 202, or the name of what it raised."""
+def thrift_said(j: Any, url: str) -> list[str]:
+    """Returns what Apache Thrift's library says of two batches: the statuses other than 202, or the name of what it raised."""
     from thrift.protocol.TBinaryProtocol import TBinaryProtocol
     from thrift.transport.THttpClient import THttpClient
 
@@ -246,8 +275,8 @@ def thrift_said(j, url):
     return said
 
 
-def numbers_of(j, bodies):
-    """The `seqNo` of each batch."""
+def numbers_of(j: Any, bodies: list[bytes]) -> list[int | None]:
+    """Returns the `seqNo` of each batch."""
     from thrift.protocol.TBinaryProtocol import TBinaryProtocol
     from thrift.transport.TTransport import TMemoryBuffer
 
@@ -259,31 +288,49 @@ def numbers_of(j, bodies):
 
 # curl.
 
-def curl(*words, stdin=None):
-    """What curl printed, and its status."""
+def curl(*words: str, stdin: bytes | None = None) -> tuple[int, str]:
+    """Returns curl's status, and what it printed."""
     done = subprocess.run(["curl", "--silent", "--show-error", "--noproxy", "*", "--max-time", "20", *words], input=stdin,
                           stdout=subprocess.PIPE, stderr=subprocess.STDOUT)
     return done.returncode, done.stdout.decode(errors="replace")
 
 
-def by_curl(checks, server, folder, searches):
-    status = ["--output", os.devnull, "--write-out", "%{http_code}"]
-    to = server.url("/api/traces")
+STATUS = ("--output", os.devnull, "--write-out", "%{http_code}")
 
-    def post(path, kind, *more):
-        return curl(*status, "-H", f"Content-Type: {kind}", "--data-binary", "@" + path, *more, to)
 
-    files = []
+def curl_post(server: Queried, path: str, kind: str, *more: str) -> tuple[int, str]:
+    """Hands in a file by curl, and returns curl's status, and that of the response."""
+    return curl(*STATUS, "-H", f"Content-Type: {kind}", "--data-binary", "@" + path, *more, server.url("/api/traces"))
+
+
+def by_curl(checks: Checks, server: Queried, folder: str, searches: bool) -> None:
+    """Checks what curl sends and asks."""
+    files = sample_files(folder)
+    kinds = [KIND, "application/vnd.apache.thrift.binary", "Application/X-Thrift; charset=none"]
+    for path, kind in zip(files, kinds):
+        checks.same(f"curl: a sample as {kind}", curl_post(server, path, kind), (0, "202"))
+    checks.same("curl: a sample as JSON", curl_post(server, files[0], "application/json"), (0, "415"))
+    curl_reads(checks, server)
+    if searches:
+        curl_searches(checks, server)
+    curl_speaks(checks, server, files[0], searches)
+    curl_sends_much(checks, server, os.path.join(folder, "large.bin"))
+
+
+def sample_files(folder: str) -> list[str]:
+    """Writes the bytes of the samples into files, one for each batch, and returns these."""
+    files: list[str] = []
     for name in ("first.hex", "shop.hex"):
         with open(os.path.join(ROOT, "samples", name)) as file:
             for line in file:
                 files.append(os.path.join(folder, f"batch{len(files)}.bin"))
                 with open(files[-1], "wb") as out:
                     out.write(bytes.fromhex(line.strip()))
-    kinds = ["application/x-thrift", "application/vnd.apache.thrift.binary", "Application/X-Thrift; charset=none"]
-    for path, kind in zip(files, kinds):
-        checks.same(f"curl: a sample as {kind}", post(path, kind), (0, "202"))
-    checks.same("curl: a sample as JSON", post(files[0], "application/json"), (0, "415"))
+    return files
+
+
+def curl_reads(checks: Checks, server: Queried) -> None:
+    """Checks what curl reads of the samples."""
     _, answer = curl(server.url("/api/traces/def"))
     checks.same("curl: a trace, byte by byte", answer, (
         '{"data":[{"processes":{"p1":{"serviceName":"orders","tags":[]}},"spans":[{"duration":40,"flags":1,"logs":[],'
@@ -294,39 +341,49 @@ def by_curl(checks, server, folder, searches):
         0, '{"data":null,"errors":[{"code":404,"msg":"trace not found"}],"limit":0,"offset":0,"total":0}404'))
     _, answer = curl(server.url("/api/services"))
     checks.same("curl: the services", {"a", "frontend", "orders"} <= set(json.loads(answer)["data"]), True)
-    if searches:
-        checks.same("curl: operations of a service", curl(server.url("/api/services/orders/operations")), (
-            0, '{"data":["list orders","sweep"],"errors":null,"limit":0,"offset":0,"total":2}'))
-        checks.same("curl: operations with their kinds", curl(server.url("/api/operations?service=frontend")), (
-            0, '{"data":[{"name":"GET /orders","spanKind":""},{"name":"call orders","spanKind":""}],"errors":null,"limit":0,'
-               '"offset":0,"total":2}'))
-        _, answer = curl("--get", to, "--data-urlencode", "service=orders", "--data-urlencode", "operation=list orders")
-        checks.same("curl: a search", [trace["traceID"] for trace in json.loads(answer)["data"]], [f"{0xabc:016x}"])
-        _, answer = curl(server.url("/api/dependencies?endTs=10"))
-        checks.same("curl: dependencies", json.loads(answer)["data"], [{"callCount": 1, "child": "orders", "parent": "frontend"}])
-    # How curl speaks HTTP.
+
+
+def curl_searches(checks: Checks, server: Queried) -> None:
+    """Checks what curl finds of the samples."""
+    checks.same("curl: operations of a service", curl(server.url("/api/services/orders/operations")), (
+        0, '{"data":["list orders","sweep"],"errors":null,"limit":0,"offset":0,"total":2}'))
+    checks.same("curl: operations with their kinds", curl(server.url("/api/operations?service=frontend")), (
+        0, '{"data":[{"name":"GET /orders","spanKind":""},{"name":"call orders","spanKind":""}],"errors":null,"limit":0,'
+           '"offset":0,"total":2}'))
+    to = server.url("/api/traces")
+    _, answer = curl("--get", to, "--data-urlencode", "service=orders", "--data-urlencode", "operation=list orders")
+    checks.same("curl: a search", [trace["traceID"] for trace in json.loads(answer)["data"]], [f"{0xabc:016x}"])
+    _, answer = curl(server.url("/api/dependencies?endTs=10"))
+    checks.same("curl: dependencies", json.loads(answer)["data"], [{"callCount": 1, "child": "orders", "parent": "frontend"}])
+
+
+def curl_speaks(checks: Checks, server: Queried, sample: str, searches: bool) -> None:
+    """Checks how curl speaks HTTP."""
     services = server.url("/api/services")
     two = curl("--output", os.devnull, services, "--output", os.devnull, services, "--write-out", "%{http_code} %{num_connects};")
     checks.same("curl: two requests on one connection", two, (0, "200 1;200 0;"))
-    checks.same("curl: HTTP/1.0", curl("--http1.0", *status, services), (0, "200"))
-    checks.same("curl: an upgrade to HTTP/2 is not taken", curl("--http2", *status, services), (0, "200"))
-    checks.same("curl: a body that is waited for (Expect)", post(files[0], kinds[0], "-H", "Expect: 100-continue"), (0, "202"))
+    checks.same("curl: HTTP/1.0", curl("--http1.0", *STATUS, services), (0, "200"))
+    checks.same("curl: an upgrade to HTTP/2 is not taken", curl("--http2", *STATUS, services), (0, "200"))
+    checks.same("curl: a body that is waited for (Expect)", curl_post(server, sample, KIND, "-H", "Expect: 100-continue"), (0, "202"))
     # The plain server, which takes no searches, reads no chunks either.
     chunked = ["-H", "Transfer-Encoding: chunked"]
-    checks.same("curl: a body in chunks", post(files[0], kinds[0], *chunked), (0, "202" if searches else "400"))
-    checks.same("curl: DELETE", curl("--request", "DELETE", *status, to), (0, "405"))
-    large = os.path.join(folder, "large.bin")
+    checks.same("curl: a body in chunks", curl_post(server, sample, KIND, *chunked), (0, "202" if searches else "400"))
+    checks.same("curl: DELETE", curl("--request", "DELETE", *STATUS, server.url("/api/traces")), (0, "405"))
+
+
+def curl_sends_much(checks: Checks, server: Queried, large: str) -> None:
+    """Checks the responses to large bodies, which are written into this file."""
     with open(large, "wb") as out:
         out.write(bytes(3_000_000))
-    checks.same("curl: 3 MB that are no batch", post(large, kinds[0]), (0, "400"))
+    checks.same("curl: 3 MB that are no batch", curl_post(server, large, KIND), (0, "400"))
     with open(large, "wb") as out:
         out.write(bytes(5_000_000))
-    checks.same("curl: 5 MB, which are too many", post(large, kinds[0]), (0, "413"))
-    checks.same("curl: 5 MB at once", post(large, kinds[0], "-H", "Expect:"), (0, "413"))
+    checks.same("curl: 5 MB, which are too many", curl_post(server, large, KIND), (0, "413"))
+    checks.same("curl: 5 MB at once", curl_post(server, large, KIND, "-H", "Expect:"), (0, "413"))
 
 
-def curl_said(files, url, *more):
-    """What curl says of these files on one connection: the statuses other than 202, 000 for a closed connection."""
+def curl_said(files: list[str], url: str, *more: str) -> list[str]:
+    """Returns what curl says of these files on one connection: the statuses other than 202, 000 for a closed connection."""
     words = []
     for file in files:
         words += ["--next", *more, "--silent", "--noproxy", "*", "--max-time", "20", "--write-out", "%{stderr}%{http_code}\n",
@@ -335,7 +392,8 @@ def curl_said(files, url, *more):
     return [line for line in done.stderr.decode().split() if line != "202"]
 
 
-def by_refused_curl(checks, folder):
+def by_refused_curl(checks: Checks, folder: str) -> None:
+    """Checks what curl does with batches that aren't taken."""
     files = [os.path.join(folder, f"batch{number}.bin") for number in (0, 1)]
     when_refused(checks, "curl", lambda url: curl_said(files, url), "000", again=1)
     for answer, text in REFUSALS.items():
@@ -366,20 +424,21 @@ puts [parent.context.trace_id, parent.context.span_id, child.context.span_id, la
 """
 
 
-def ran(command, **more):
-    """The ids that a client printed, and the lines of its log."""
+def ran(command: list[str], **more: Any) -> Said:
+    """Returns the ids that a client printed, and the lines of its log."""
     done = subprocess.run(command, capture_output=True, timeout=60, **more)
     if done.returncode:
         raise ValueError(f"status {done.returncode}: {done.stderr.decode()}")
     return done.stdout.decode().split(), done.stderr.decode().splitlines()
 
 
-def with_ruby(url, size=1):
+def with_ruby(url: str, size: int = 1) -> Said:
+    """Sends two batches by Jaeger's client for Ruby."""
     return ran(["ruby", "-e", RUBY, url, str(size)])
 
 
-def go_client(folder):
-    """A call of OpenTelemetry's exporter for Go, like `with_ruby`; None without Debian's packages."""
+def go_client(folder: str) -> Run | None:
+    """Returns a call of OpenTelemetry's exporter for Go, like `with_ruby`; None without Debian's packages."""
     program, sources = os.path.join(folder, "exporter"), "/usr/share/gocode"
     if not shutil.which("go") or not os.path.isdir(os.path.join(sources, "src/go.opentelemetry.io/otel/exporters/jaeger")):
         return None
@@ -388,8 +447,8 @@ def go_client(folder):
     return lambda url, size=1, **more: ran([program, str(size)], env={**os.environ, "OTEL_EXPORTER_JAEGER_ENDPOINT": url, **more})
 
 
-def sent_spans(checks, server, name, run):
-    """The first span that a client sent, the one below it, and the process; the trace has one more, of the second batch."""
+def sent_spans(checks: Checks, server: Queried, name: str, run: Run) -> tuple[Any, Any, Any]:
+    """Returns the first span that a client sent, the one below it, and the process; the trace has one more, of the second batch."""
     (own, *ids), log = run(server.url("/api/traces"))
     checks.same(f"{name}: the client's own log", log, [])
     trace = server.trace(int(own, 16))
@@ -404,8 +463,8 @@ def sent_spans(checks, server, name, run):
     return parent, child, trace["processes"][parent["processID"]]
 
 
-def when_not_taken(checks, server, binary, j, name, run, word):
-    """What a client does with batches that `serve`, or a server like it, doesn't take, and whether it numbers them."""
+def when_not_taken(checks: Checks, server: Queried, binary: str | None, j: Any, name: str, run: Run, word: str) -> None:
+    """Checks what a client does with batches that `serve`, or a server like it, doesn't take, and whether it numbers them."""
     when_refused(checks, name, lambda url: run(url)[1], word)
     bodies, _ = bodies_of(run, ACCEPTED)
     checks.same(f"{name}: the batches have no seqNo", numbers_of(j, bodies), [None, None])
@@ -418,7 +477,8 @@ def when_not_taken(checks, server, binary, j, name, run, word):
             checks.same(f"{name}: the spans of the batch that fitted", len(full.trace(int(own, 16))["spans"]), 2)
 
 
-def by_ruby(checks, server):
+def by_ruby(checks: Checks, server: Queried) -> None:
+    """Checks what Jaeger's client for Ruby sent."""
     parent, child, process = sent_spans(checks, server, "ruby", with_ruby)
     wanted = [shown("span.kind", "string", "server"), shown("count", "int64", 3), shown("share", "float64", double(0.5)),
               shown("paid", "bool", True)]
@@ -430,7 +490,8 @@ def by_ruby(checks, server):
     checks.same("ruby: the process", (process["serviceName"], found.get("hostname"), found.get("ip")), ("ruby shop", "h1", "10.0.0.1"))
 
 
-def by_go(checks, server, run):
+def by_go(checks: Checks, server: Queried, run: Run) -> None:
+    """Checks what OpenTelemetry's exporter for Go sent."""
     parent, child, process = sent_spans(checks, server, "go", run)
     link = {"refType": "FOLLOWS_FROM", "spanID": f"{7:016x}", "traceID": f"{8 << 64:032x}"}
     checks.same("go: the link", child["references"][1:], [link])
@@ -449,7 +510,8 @@ def by_go(checks, server, run):
         checks.same("go: the password", proxy.passwords, ["Basic bmFtZTp3b3Jk"] * 2)
 
 
-def main():
+def main() -> None:
+    """Runs the checks of each client that is installed."""
     asked = asked_of(__doc__)
     asked.add_argument("--port", type=int, help="drive the program that listens there")
     asked.add_argument("--no-searches", action="store_true", help="for bench/plain_server.rs, which has none")
@@ -479,8 +541,8 @@ def main():
             print("left out: ruby, for want of Debian's package ruby-jaeger-client")
         with_go = go_client(folder)
         if with_go:
-            checks.each("go", lambda: by_go(checks, server, with_go))
-            checks.each("go", lambda: when_not_taken(checks, server, binary, j, "go", with_go, "EOF"))
+            checks.each("go", functools.partial(by_go, checks, server, with_go))
+            checks.each("go", functools.partial(when_not_taken, checks, server, binary, j, "go", with_go, "EOF"))
         else:
             print("left out: go, for want of Debian's packages golang-go and golang-opentelemetry-otel-dev (of Debian 12)")
     print(f"{checks.passed} passed, {checks.failed} failed")

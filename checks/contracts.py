@@ -10,27 +10,28 @@ from the crate's .rt files; nothing is checked.
 """
 import re
 import sys
+from collections.abc import Iterator
 from pathlib import Path
 
 from crates import asked_of
-from sources import CRATES, exported, modules, one_line
+from sources import CRATES, Item, Module, exported, modules, one_line
 
 PRIVATE = re.compile(r"^    (?!pub |///|\})\w[^\n]*,\n", re.M)
 GHOST_USE = re.compile(r"ghost use Rattle\.(\w+)\.specs\.([\w.]+)\.\{([^}]*)\}")
 LINK = re.compile(r"\[(`[^`]+`)\](?!\()(?:\([^)]*\))?")
 
 
-def prose(doc):
+def prose(doc: str) -> str:
     """Returns a doc comment as Markdown, its links to items as code and its headings as bold text."""
     return re.sub(r"^# (.*)$", r"**\1**", LINK.sub(r"\1", doc), flags=re.M)
 
 
-def code(text):
+def code(text: str) -> Iterator[str]:
     """Yields the lines of a block of code."""
     yield from ("```rust", text, "```", "")
 
 
-def shape(item):
+def shape(item: Item) -> str:
     """Returns a type as others see it, without its private fields."""
     text = re.sub(r"\n    ghost use [^;]*;\n?", "\n", item.text)
     if item.kind != "struct" or "{" not in text:
@@ -41,7 +42,7 @@ def shape(item):
     return f"{head}{{\n{kept}}}" if kept else f"{head}{{ .. }}"
 
 
-def function(item, depth):
+def function(item: Item, depth: int) -> Iterator[str]:
     """Yields the lines of a function: its comment, its signature and its clauses."""
     name = f"{item.owner}::{item.name}" if item.owner else item.name
     yield f"{'#' * depth} `{name}`\n"
@@ -55,7 +56,7 @@ def function(item, depth):
         yield ""
 
 
-def facts(item):
+def facts(item: Item) -> Iterator[str]:
     """Yields what an impl says of its type: what contracts see of it, or the trait that it has."""
     view = re.search(r"ghost view = \{(.*?)\};$", item.text, re.M | re.S)
     if item.trait == "Model" and view:
@@ -64,7 +65,7 @@ def facts(item):
         yield f"It has the trait `{item.trait}`.\n"
 
 
-def module_lines(module, names, impls):
+def module_lines(module: Module, names: set[str], impls: dict[str, list[Item]]) -> Iterator[str]:
     """Yields the lines of a module's public items."""
     for item in module.items:
         open_here = module.public or item.name in names
@@ -81,9 +82,9 @@ def module_lines(module, names, impls):
                 yield from facts(it) if it.kind == "impl" else function(it, 4)
 
 
-def impls_of(all_modules):
+def impls_of(all_modules: list[Module]) -> dict[str, list[Item]]:
     """Returns of each type its public functions and its impls of traits, in the order of the modules."""
-    found = {}
+    found: dict[str, list[Item]] = {}
     for module in all_modules:
         for item in module.items:
             shown = item.kind == "fn" and item.owner and not item.trait and item.visible == "pub"
@@ -92,7 +93,7 @@ def impls_of(all_modules):
     return found
 
 
-def tests_of(all_modules):
+def tests_of(all_modules: list[Module]) -> Iterator[str]:
     """Yields the lines of a crate's tests, by module."""
     for module in all_modules:
         tests = [it for it in module.items if "#[test]" in it.marks]
@@ -104,22 +105,23 @@ def tests_of(all_modules):
             yield ""
 
 
-def definitions(all_modules, lines):
+def definitions(all_modules: list[Module], lines: list[str]) -> Iterator[str]:
     """Yields, for each file of the repository's definitions, those that the lines name."""
-    said, files = set(re.findall(r"[\w-]+", "\n".join(lines))), {}
+    said = set(re.findall(r"[\w-]+", "\n".join(lines)))
+    files: dict[str, set[str]] = {}
     for module in all_modules:
         for crate, path, names in GHOST_USE.findall(module.file.read_text(encoding="utf-8")):
             if (CRATES / crate / "specs" / f"{path}.antt").exists():
                 here = {it.split(" as ")[-1].strip() for it in names.split(",")} & said
                 files.setdefault(f"{crate}/specs/{path}.antt", set()).update(here)
-    kept = sorted((file, names) for file, names in files.items() if names)
+    kept = sorted((file, sorted(names)) for file, names in files.items() if names)
     if kept:
         yield "## Definitions\n"
-    for file, names in kept:
-        yield f"* `{file}`: {', '.join(f'`{it}`' for it in sorted(names))}"
+    for file, shown in kept:
+        yield f"* `{file}`: {', '.join(f'`{it}`' for it in shown)}"
 
 
-def page(crate, with_tests):
+def page(crate: str, with_tests: bool) -> str:
     """Returns the page of a crate."""
     all_modules, names = list(modules(crate)), exported(crate)
     impls = impls_of(all_modules)
@@ -134,7 +136,7 @@ def page(crate, with_tests):
     return "\n".join(lines).rstrip() + "\n"
 
 
-def main():
+def main() -> int:
     """Prints the page that is asked for, or writes all."""
     asked = asked_of(__doc__, None)
     asked.add_argument("crate", nargs="?", metavar="CRATE", help="a folder of crates/")

@@ -16,6 +16,7 @@ import collections
 import pathlib
 import re
 import sys
+from typing import NamedTuple
 
 from crates import asked_of, lists
 
@@ -26,29 +27,36 @@ PARTS = re.compile(r"\.(?:Answers|Code|Given|Goals|Invariants|Key|Kinds|Layout|L
 MAX_PART_SECONDS = 600
 
 
-def kept_files(crate):
+class Kept(NamedTuple):
+    """A file that a check kept, with its time."""
+
+    time: float
+    name: str
+
+
+def kept_files(crate: str) -> list[Kept]:
     """Returns the times of the files that checks of the crate kept, with their names, in the order of the times."""
     folder = TOP / "crates" / crate / "out" / "incremental"
-    return sorted((file.stat().st_mtime, file.stem) for file in folder.glob("*/*.oantt"))
+    return sorted(Kept(file.stat().st_mtime, file.stem) for file in folder.glob("*/*.oantt"))
 
 
-def owner_of(crate, name):
+def owner_of(crate: str, name: str) -> str:
     """Returns the function, or the file of lemmas, of which a file is a part."""
     own = re.sub(rf"^Rattle-{crate}[-.]?(?:proofs|specs\.contracts)?\.?", "", name)
     return PARTS.sub("", own) or "(the crate)"
 
 
-def seconds_by_owner(crate):
+def seconds_by_owner(crate: str) -> dict[str, float]:
     """Returns the seconds that went into each function."""
     files = kept_files(crate)
-    seconds = collections.Counter()
-    for (before, _), (time, name) in zip(files, files[1:]):
-        if time - before < MAX_PART_SECONDS:
-            seconds[owner_of(crate, name)] += time - before
+    seconds: dict[str, float] = collections.defaultdict(float)
+    for before, file in zip(files, files[1:]):
+        if file.time - before.time < MAX_PART_SECONDS:
+            seconds[owner_of(crate, file.name)] += file.time - before.time
     return seconds
 
 
-def main():
+def main() -> int:
     """Prints the functions of each crate on which most time was spent."""
     asked = asked_of(__doc__, program=None)
     asked.add_argument("crates", nargs="+", metavar="CRATE", help="the crates")
@@ -62,7 +70,7 @@ def main():
         seconds = seconds_by_owner(crate)
         total = sum(seconds.values())
         print(f"{crate}: {total:.0f} seconds, {len(seconds)} functions and files")
-        for name, spent in seconds.most_common(words.most):
+        for name, spent in sorted(seconds.items(), key=lambda it: it[1], reverse=True)[: words.most]:
             print(f"{spent:8.1f} {spent / total:6.1%}  {name}")
     return 0
 

@@ -7,13 +7,16 @@ An edit applies if each of its `old:` lines is in the file that it names exactly
 apply if its new text calls a function or method that is defined neither in its crate, nor below it, nor in the toolchain (a method has to
 take `self`), or if it returns a record that the type of its function doesn't name. Only names are looked up, so an edit that passes may
 still not compile. Without the toolchain's sources (`--kit`) no call is looked up, and it says so. A line is printed for each edit that
-doesn't apply, then the count; the exit status is 0 only if all apply. docs/adding.md says how an edit is written.
+doesn't apply, then the count; the exit status is 0 only if all apply. CONTRIBUTING.md (Wrong bodies) says how an edit is
+written.
 """
 
 import functools
 import pathlib
 import re
 import sys
+from collections.abc import Iterator
+from typing import NamedTuple
 
 from crates import asked_of, below, lists
 
@@ -40,9 +43,25 @@ class Fault(Exception):
     """Why an edit does not apply."""
 
 
-def pairs_of(edit):
-    """Yields (file, old, new) of an edit's lines, in order; lines that begin otherwise are not read."""
-    path, old = None, None
+class Pair(NamedTuple):
+    """A file of an edit, a text in it, and the one that the edit puts there."""
+
+    path: str
+    old: str
+    new: str
+
+
+class Defined(NamedTuple):
+    """The names of methods, and of other functions."""
+
+    methods: set[str]
+    functions: set[str]
+
+
+def pairs_of(edit: pathlib.Path) -> Iterator[Pair]:
+    """Yields the pairs of an edit's lines, in order; lines that begin otherwise are not read."""
+    path: str | None = None
+    old: str | None = None
     for line in edit.read_text(encoding="utf-8").split("\n"):
         if line.startswith("file: "):
             path = line[len("file: ") :].strip()
@@ -53,13 +72,13 @@ def pairs_of(edit):
         elif line.startswith("new:"):
             if not path or not old:
                 raise Fault("a 'new:' line has no 'file:' or 'old:' line before it")
-            yield path, old, re.sub("^ ", "", line[len("new:") :])
+            yield Pair(path, old, re.sub("^ ", "", line[len("new:") :]))
             old = None
     if old is not None:
         raise Fault("an 'old:' line has no 'new:' line")
 
 
-def read(crate, path):
+def read(crate: pathlib.Path, path: str) -> str:
     """Returns the text of a file of the crate."""
     parts = pathlib.PurePosixPath(path).parts
     if not path.startswith(PARTS) or ".." in parts:
@@ -70,9 +89,10 @@ def read(crate, path):
     return file.read_text(encoding="utf-8")
 
 
-def apply(edit, crate):
+def apply(edit: pathlib.Path, crate: pathlib.Path) -> dict[str, str]:
     """Returns the texts that an edit's pairs make of its files, each pair applied to what those before it left; raises Fault if one does not apply."""
-    texts, changed = {}, False
+    texts: dict[str, str] = {}
+    changed = False
     for path, old, new in pairs_of(edit):
         if path not in texts:
             texts[path] = read(crate, path)
@@ -88,51 +108,51 @@ def apply(edit, crate):
     return texts
 
 
-def defined(text):
+def defined(text: str) -> Defined:
     """Returns the names of a text's methods, and of its other functions."""
-    methods, functions = set(), set()
+    names = Defined(set(), set())
     for found in DEFINED.finditer(text):
-        (methods if TAKES_SELF.search(found[2]) else functions).add(found[1])
-    return methods, functions
+        (names.methods if TAKES_SELF.search(found[2]) else names.functions).add(found[1])
+    return names
 
 
 @functools.cache
-def names_of(folder):
+def names_of(folder: pathlib.Path) -> Defined:
     """Returns the names of the methods and of the other functions that a crate's sources define."""
-    methods, functions = set(), set()
+    names = Defined(set(), set())
     for file in sorted((folder / "src").rglob("*.rt")):
         found = defined(file.read_text(encoding="utf-8"))
-        methods |= found[0]
-        functions |= found[1]
-    return methods, functions
+        names.methods.update(found.methods)
+        names.functions.update(found.functions)
+    return names
 
 
 @functools.cache
-def known_to(crate, kit):
+def known_to(crate: pathlib.Path, kit: pathlib.Path) -> Defined:
     """Returns the names of the methods and of the other functions of a crate and of those that it uses."""
     used = lists()
     own = below([crate.name], used)
     others = {name for mine in own for name in used[mine]} - own
     folders_of = [TOP / "crates" / name for name in own] + [kit / name for name in [*others, *STD]]
     found = [names_of(folder) for folder in folders_of]
-    return set().union(*(names[0] for names in found)), set().union(*(names[1] for names in found))
+    return Defined({name for it in found for name in it.methods}, {name for it in found for name in it.functions})
 
 
-def look_up(edit, texts, methods, functions):
+def look_up(edit: pathlib.Path, texts: dict[str, str], known: Defined) -> None:
     """Raises Fault if an edit's new text calls what none of these names is of; `texts` are the edited files."""
     here = defined("\n".join(texts.values()))
     for path, _, new in pairs_of(edit):
         bound = {name for pair in BOUND.findall(texts[path]) for name in pair}
         for before, name in CALLED.findall(TEXTS.sub(" ", new)):
-            if name in WORDS or name in methods or name in here[0]:
+            if name in WORDS or name in known.methods or name in here.methods:
                 continue
             if before == "." and name not in BUILT_IN:
                 raise Fault(f"it calls the method {name}, and there is none")
-            if before != "." and name not in functions and name not in here[1] and name not in bound:
+            if before != "." and name not in known.functions and name not in here.functions and name not in bound:
                 raise Fault(f"it calls {name}, and there is no such function")
 
 
-def look_at_returns(edit, texts):
+def look_at_returns(edit: pathlib.Path, texts: dict[str, str]) -> None:
     """Raises Fault if an edit's new text returns a record that the type of its function doesn't name."""
     for path, _, new in pairs_of(edit):
         start = texts[path].find(new) if new.strip() else -1
@@ -143,7 +163,7 @@ def look_at_returns(edit, texts):
                 raise Fault(f"it returns Ok({found[1]}) from {heads[-1][1] if heads else 'no function'}, whose type has no {found[1]}")
 
 
-def folders():
+def folders() -> Iterator[tuple[pathlib.Path, pathlib.Path]]:
     """Yields each folder of edits with the crate that they are of."""
     for crate in sorted((TOP / "crates").iterdir()):
         yield crate / "must-fail", crate
@@ -151,7 +171,7 @@ def folders():
         yield folder, TOP / "crates" / folder.name
 
 
-def main():
+def main() -> int:
     """Prints each edit that does not apply, and the count."""
     asked = asked_of(__doc__, None)
     asked.add_argument("--kit", type=pathlib.Path, default=KIT, help=f"the sources of the toolchain's crates; {KIT} if none is named")
@@ -170,7 +190,7 @@ def main():
                     raise Fault("its name is not of letters, digits, _, - and . with .edit at the end")
                 texts = apply(edit, crate)
                 if known:
-                    look_up(edit, texts, *known)
+                    look_up(edit, texts, known)
                 look_at_returns(edit, texts)
             except (Fault, OSError, UnicodeError) as why:
                 faults += 1

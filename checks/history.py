@@ -14,7 +14,7 @@ the history had come, and at the end the record is the history itself, in order.
 Connections are cut in a head, in a body, before an answer and inside it; bodies are damaged (and must be refused) and sent
 again; bodies come in chunks and in pieces; requests are pipelined; some clients read slowly, or ask for the end.
 
-Judged, as docs/serve.md and docs/http-session.md promise it:
+Judged, as docs/using.md and docs/architecture.md promise it:
 
   each batch        sent whole and acknowledged (202): is in the history once. Sent again after an answer that never came:
                     at least as often as it was acknowledged, at most as often as it was sent whole. Refused, damaged or cut
@@ -32,6 +32,7 @@ from before that. `--strict` judges these too.
 It prints how many queries and acknowledgements it judged. Status 0: all holds. 1: it doesn't; the first violations are told. 2:
 it could not run, or a connection ended in a way that no client asked for. Standard library alone; `--self-test` needs rustc.
 """
+import argparse
 import collections
 import contextlib
 import multiprocessing
@@ -41,9 +42,11 @@ import sys
 import tempfile
 import time
 import traceback
+from collections.abc import Iterator
+from typing import NoReturn
 
-from history_clients import (RECORD, TOLD, Connection, Log, Look, OperationsLook, PageLook, Parted, Reader, ServicesLook,
-                             Violation, Writer, run_client, service_of)
+from history_clients import (RECORD, TOLD, Client, Connection, Log, Look, OperationsLook, PageLook, Parted, Query, Reader,
+                             ServicesLook, Violation, Writer, run_client, service_of)
 from history_judge import Judge
 from crates import asked_of
 from servers import Failed, Server, rust_program
@@ -52,12 +55,12 @@ BROKEN = "checks/broken_server.rs"
 
 
 class CannotRun(Exception):
-    pass
+    """Why nothing could be judged."""
 
 
 @contextlib.contextmanager
-def telling(server):
-    """At the end it is told what the server wrote to standard error."""
+def telling(server: Server) -> Iterator[None]:
+    """Prints, at the end, what the server wrote to standard error."""
     try:
         yield
     finally:
@@ -65,11 +68,12 @@ def telling(server):
             print(f"the server told: {line}", flush=True)
 
 
-def run_clients(options, port, start):
+def run_clients(options: argparse.Namespace, port: int, start: float) -> list[Log]:
+    """Runs the clients, each in a process of its own, and returns their logs."""
     context = multiprocessing.get_context("fork")
     tickets = context.Value("Q")
     end = start + options.seconds
-    kinds = [(Writer, n, options.pace) for n in range(1, options.writers + 1)]
+    kinds: list[tuple[type[Client], int, float]] = [(Writer, n, options.pace) for n in range(1, options.writers + 1)]
     kinds += [(Reader, n, options.queries) for n in range(1, options.readers + 1)]
     runs = []
     for kind, number, pace in kinds:
@@ -89,8 +93,8 @@ def run_clients(options, port, start):
     return logs
 
 
-def wants_empty(port):
-    """The first query: a server that holds something already can't be judged."""
+def wants_empty(port: int) -> None:
+    """Makes the first query: a server that holds something already can't be judged."""
     try:
         with Connection(port, random.Random(0), Log("the first query")) as connection:
             first = connection.answer(Look(ServicesLook()).bytes)
@@ -100,24 +104,27 @@ def wants_empty(port):
         raise CannotRun(f"the server holds something already: {first.status} {first.body[:120]!r}")
 
 
-def look_at_all(port, logs):
-    """The last connection: the record, all services, each page and each service, and the record again, which is the history."""
+def look_at_all(port: int, logs: list[Log]) -> tuple[Log, list[int]]:
+    """Makes the last connection, and returns its log, and the history: the record, all services, each page and each service are asked, and
+    the record again, which is the history."""
     log = Log("the last query")
     pages = sorted({page for each in logs for page in each.pages.values()})
     services = sorted({service_of(batch, page) for each in logs for batch, page in each.pages.items()})
-    looks = [PageLook(RECORD, raw=True), ServicesLook(), *map(PageLook, pages), *map(OperationsLook, services)]
+    record = PageLook(RECORD, raw=True)
+    queries: list[Query] = [record, ServicesLook(), *map(PageLook, pages), *map(OperationsLook, services)]
     with Connection(port, random.Random(0), log) as connection:
-        for look in map(Look, looks):
+        for look in map(Look, queries):
             begin = time.monotonic()
             response = connection.answer(look.bytes)
             look.answered(log, response.status, response.body, begin)
-        last = connection.answer(Look(looks[0]).bytes)
+        last = connection.answer(Look(record).bytes)
     if last.status >= 500:
         raise CannotRun(f"the record can't be read: {last.status} {last.body[:120]!r}")
-    return log, looks[0].read(last.status, last.body)[1]
+    return log, record.read(last.status, last.body).items
 
 
-def report(judge, logs, options, seconds):
+def report(judge: Judge, logs: list[Log], options: argparse.Namespace, seconds: float) -> None:
+    """Prints what was judged, and the violations."""
     counts = judge.counts
     kinds = ["at pages", "at operations", "at services", "searches that find nothing", "at the record"]
     looks = sum(counts[kind] for kind in kinds)
@@ -131,20 +138,21 @@ def report(judge, logs, options, seconds):
           f"batch acknowledged, and {counts['shown elsewhere']} of a batch shown, on another connection before")
     for what, count in troubles(logs).items():
         print(f"{count} {what}")
-    for _, what in judge.violations[:TOLD]:
-        print(f"VIOLATION {what}")
+    for violated in judge.violations[:TOLD]:
+        print(f"VIOLATION {violated.what}")
     if judge.violations:
         print(f"{len(judge.violations)} violations")
     else:
         print(f"one growing history of {len(judge.history)} batches explains every answer")
 
 
-def troubles(logs):
+def troubles(logs: list[Log]) -> collections.Counter[str]:
+    """Returns what went wrong beside the promises, with counts."""
     return sum((log.troubles for log in logs), collections.Counter())
 
 
-def drive(options, binary, *words, port=None):
-    """Drives a server and judges it: what violates a promise, and whether something went wrong beside that."""
+def drive(options: argparse.Namespace, binary: str, *words: object, port: int | None = None) -> tuple[list[str], bool]:
+    """Drives a server and judges it; returns what violates a promise, and whether something went wrong beside that."""
     start = time.monotonic()
     with Server(*words, binary=binary, port=port) as server, telling(server):
         wants_empty(server.port)
@@ -163,7 +171,7 @@ def drive(options, binary, *words, port=None):
     judge = Judge(logs, history, start, options.strict)
     judge.judge()
     report(judge, logs, options, time.monotonic() - start)
-    return [what for _, what in judge.violations], bool(troubles(logs))
+    return [it.what for it in judge.violations], bool(troubles(logs))
 
 
 # What is told of each fault of the plain server.
@@ -179,15 +187,16 @@ FAULTS = {
 }
 
 
-def build(folder):
+def build(folder: str) -> str:
+    """Builds the plain server, and returns it."""
     try:
         return rust_program(folder, BROKEN)
     except (OSError, subprocess.CalledProcessError) as fault:
         raise CannotRun(f"{BROKEN} can't be built: {fault}") from None
 
 
-def self_test(options):
-    """The plain server without a fault, and with each of them; the status to end with."""
+def self_test(options: argparse.Namespace) -> int:
+    """Drives the plain server without a fault, and with each of them; returns the status to end with."""
     failed = 0
     with tempfile.TemporaryDirectory() as folder:
         program = build(folder)
@@ -202,7 +211,8 @@ def self_test(options):
     return 1 if failed else 0
 
 
-def parsed():
+def parsed() -> argparse.Namespace:
+    """Returns what the script is asked."""
     asked = asked_of(__doc__)
     asked.add_argument("--port", type=int, help="a server that listens already and holds nothing")
     asked.add_argument("--seconds", type=float, help="60, or 5 with --self-test")
@@ -225,7 +235,8 @@ def parsed():
     return options
 
 
-def main():
+def main() -> NoReturn:
+    """Drives a server, or the plain one with its faults."""
     options = parsed()
     print(f"seed {options.seed}", flush=True)
     try:

@@ -19,19 +19,19 @@ PARTS = ("src", "specs", "proofs")
 ENDINGS = {".rt", ".antt"}
 
 
-def files_of(crate):
+def files_of(crate: str) -> list[pathlib.Path]:
     """Returns the files of a crate that have a layout, in order, as seen from the top."""
     folder = TOP / "crates" / crate
     return sorted(file.relative_to(TOP) for part in PARTS for file in (folder / part).rglob("*") if file.suffix in ENDINGS)
 
 
-def checked(program, files):
+def checked(program: pathlib.Path, files: list[pathlib.Path]) -> tuple[str, bool]:
     """Returns what the toolchain says of files that aren't laid out, and whether all are."""
     ran = subprocess.run([program, "fmt", "--check", *files], cwd=TOP, stdout=subprocess.PIPE, stderr=subprocess.STDOUT, text=True, check=False)
     return ran.stdout, ran.returncode == 0
 
 
-def main():
+def main() -> int:
     """Asks about each crate."""
     asked_of(__doc__, program=None).parse_args()
     command = shutil.which("rt")

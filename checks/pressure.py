@@ -34,13 +34,14 @@ from servers import Client, Failed, Server, check, get, limited_by, post, post_b
 import wire
 
 
-def posted_until_refused(server):
-    """Posts large batches until some are refused; how many were accepted, and the statuses of the others."""
-    accepted, others = 0, []
+def posted_until_refused(server: Server) -> tuple[int, list[int | str]]:
+    """Posts large batches until some are refused; returns how many were accepted, and the statuses of the others."""
+    accepted = 0
+    others: list[int | str] = []
     client = Client(server.port)
     for number in range(1, 200_000):
         try:
-            status = client.answer(post(number, operation="x" * 20_000)).status
+            status: int | None = client.answer(post(number, operation="x" * 20_000)).status
         except Failed:
             # A head or a body for which there is no memory ends its session.
             others.append("ended")
@@ -55,7 +56,8 @@ def posted_until_refused(server):
     return accepted, others
 
 
-def memory():
+def memory() -> str:
+    """Posts to a server under a limit of address space."""
     limit = 730 << 20
     with Server("--batches", 1_000_000, "--spans", 1_000_000, "--workers", 4, "--idle", 0, address_space=limit) as server:
         accepted, others = posted_until_refused(server)
@@ -73,7 +75,8 @@ def memory():
         return f"{accepted} accepted, then 50 refused ({ended} of them by the end of the session), {share:.3f} of a core alone, accepted again"
 
 
-def refusals(posts):
+def refusals(posts: int) -> str:
+    """Lets a full server refuse this number of batches."""
     at_once = 200
     requests = b"".join(post(number) for number in range(at_once))
     with Server("--batches", 1, "--workers", 2, "--idle", 0) as server, server.client() as client:
@@ -91,7 +94,8 @@ def refusals(posts):
         return f"{posts} refusals; {held[0]} kB after the first ten thousand, {held[-1]} kB after all"
 
 
-def idle():
+def idle() -> str:
+    """Leaves a server alone."""
     with Server("--workers", 4) as server:
         with server.client() as client:
             client.ask(post(1), 202)
@@ -100,7 +104,8 @@ def idle():
         return f"{share:.3f} of a core"
 
 
-def told():
+def told() -> str:
+    """Reads the lines on standard error."""
     with Server("--batches", 1, "--workers", 2) as server:
         with server.client() as client:
             client.ask(post(1), 202)
@@ -122,8 +127,8 @@ def told():
     return "; ".join([*begin, *full, *more])
 
 
-def short_of_files(server):
-    """Brings a server of two workers that wait to its limit of open files and lifts it again; the share of a core that it took."""
+def short_of_files(server: Server) -> float:
+    """Brings a server of two workers that wait to its limit of open files and lifts it again; returns the share of a core that it took."""
     limit = resource.prlimit(server.run.pid, resource.RLIMIT_NOFILE)
     files = len(os.listdir(f"/proc/{server.run.pid}/fd"))
     resource.prlimit(server.run.pid, resource.RLIMIT_NOFILE, (files + 2, limit[1]))
@@ -138,7 +143,8 @@ def short_of_files(server):
     return share
 
 
-def files():
+def files() -> str:
+    """Brings a server to its limit of open files, twice."""
     with Server("--workers", 2, "--sessions", 6) as server:
         time.sleep(0.5)  # both workers wait by then, and the limits are said
         begin = server.told()
@@ -153,14 +159,16 @@ def files():
     return f"{told[0]}; {max(shares):.3f} of a core"
 
 
-def waits():
+def waits() -> str:
+    """Leaves answers of many spans unread."""
     many, all_of_them = 10_000, get("/api/traces?service=shop&limit=0")
     with Server("--workers", 1, "--spans", 200_000, "--idle", 0) as server, contextlib.ExitStack() as stack:
         with server.client() as client:
             for trace in range(10):
                 client.ask(post_body(wire.batch("shop", [wire.span(trace + 1, number + 1) for number in range(many)])), 202)
             text = len(client.ask(all_of_them, 200).body)
-        begin, slow = server.told(), []
+        begin = server.told()
+        slow: list[Client] = []
         while server.told() == begin and len(slow) * text < 3 << 30:
             slow.append(stack.enter_context(server.client(patience=60, room=4096)))
             slow[-1].send(all_of_them)
@@ -172,16 +180,19 @@ def waits():
         check(slow[0].more(), "a client that came before gets no more of its answer")
         server.is_well()
         check(server.told()[len(begin):] == told, f"then it said {server.told()[len(begin):]}")
-        return f"{len(slow)} answers of {text / 1e6:.1f} MB, {server.memory() / 1000:.0f} MB held; {wanted}"
+        held = f"{len(slow)} answers of {text / 1e6:.1f} MB, {server.memory() / 1000:.0f} MB held; {wanted}"
+    return held
 
 
-def texts():
+def texts() -> str:
+    """Leaves answers of long texts unread."""
     with Server("--workers", 1, "--idle", 0) as server, contextlib.ExitStack() as stack:
         with server.client() as client:
             tags = wire.structs(10, [wire.text_tag("controls", "\x01" * 4_190_000)])
             client.ask(post_body(wire.batch("shop", [wire.span(1, 1, more=tags)])), 202)
             text = len(client.ask(get("/api/traces/1"), 200).body)
-        begin, slow = server.told(), []
+        begin = server.told()
+        slow: list[Client] = []
         while server.told() == begin and len(slow) * text < 1 << 30:
             slow.append(stack.enter_context(server.client(patience=60, room=4096)))
             slow[-1].send(get("/api/traces/1"))
@@ -192,10 +203,12 @@ def texts():
         check(0 < len(slow) * text - (256 << 20) < 2 * text, f"it said so of {len(slow)} answers of {text} bytes")
         check(slow[0].more(), "a client that came before gets no more of its answer")
         server.is_well()
-        return f"{len(slow)} answers of {text / 1e6:.1f} MB, {server.memory() / 1000:.0f} MB held; {wanted}"
+        held = f"{len(slow)} answers of {text / 1e6:.1f} MB, {server.memory() / 1000:.0f} MB held; {wanted}"
+    return held
 
 
-def answers():
+def answers() -> str:
+    """Asks a server that has no memory for the answer."""
     many, all_of_them = 10_000, get("/api/traces?service=shop&limit=0")
     with Server("--workers", 1, "--spans", 400_000, "--idle", 0) as server, server.client(patience=60) as client:
         for trace in range(10):
@@ -213,7 +226,8 @@ def answers():
         return f"{wanted}; then 200"
 
 
-def opening():
+def opening() -> str:
+    """Starts a server without memory for its store."""
     words = [Server.binary, "serve", "--workers", "1", "--batches", "1000000"]
     run = subprocess.run(words, stdin=subprocess.DEVNULL, capture_output=True, timeout=20, preexec_fn=limited_by({resource.RLIMIT_AS: 30 << 20}))
     wanted = "ends with status 5: no memory for a store with these limits: give smaller ones"
@@ -222,7 +236,8 @@ def opening():
     return wanted
 
 
-def main():
+def main() -> None:
+    """Runs the parts."""
     asked = asked_of(__doc__)
     asked.add_argument("--posts", type=int, default=1_000_000)
     asked.add_argument("--only", default="", help="the parts whose name has this word")

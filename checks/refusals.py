@@ -36,6 +36,7 @@ is refused over other libraries than those that it was tried with: a change in a
 line has that outcome, or `all`. Status 1 if an edit that was tried was not refused for its meaning.
 """
 
+import argparse
 import collections
 import concurrent.futures
 import contextlib
@@ -49,14 +50,15 @@ import sys
 import tempfile
 import threading
 import time
+from collections.abc import Iterator, Sequence
+from typing import NamedTuple
 
-from bodies import change_of, rounds_of
+from bodies import Change, Function, change_of, rounds_of
 from crates import asked_of, below, lists
 from edits import Fault, folders
 
 TOP = pathlib.Path(__file__).resolve().parent.parent
 RESULTS = TOP / "wrong-bodies" / "results.tsv"
-COLUMNS = ("crate", "edit", "outcome", "checked", "why", "seconds", "commit", "crate_sum", "edit_sum")
 REFUSED, BY_NAME, AT_LIMIT = "refused", "by a name", "at a limit"
 NOT_REFUSED, BAD, NOT_TRIED = "not refused", "bad edit", "not tried"
 OUTCOMES = (REFUSED, BY_NAME, AT_LIMIT, NOT_REFUSED, BAD, NOT_TRIED)
@@ -77,7 +79,38 @@ CALLS = re.compile(r"(?:; |: )?it calls `.*")
 CLOSURE = re.compile(r"(?P<module>(?:\w+::)*)fn::(?P<name>.+)::\w+\+Fn(?:Mut|Once)?::\w+")
 
 
-def sum_of(*texts):
+class Row(NamedTuple):
+    """A line of results.tsv, which is of one edit."""
+
+    crate: str
+    edit: str
+    outcome: str
+    checked: str
+    why: str
+    seconds: str
+    commit: str
+    crate_sum: str
+    edit_sum: str
+
+
+class Came(NamedTuple):
+    """What came of an edit: the outcome, the line that says why, what was checked, and the seconds of a processor."""
+
+    outcome: str
+    why: str
+    checked: str
+    seconds: float
+
+
+class Error(NamedTuple):
+    """An error of a check: the file where it is, what it says, and its whole line."""
+
+    file: str
+    said: str
+    line: str
+
+
+def sum_of(*texts: bytes) -> str:
     """Returns a short sum of texts."""
     made = hashlib.sha256()
     for text in texts:
@@ -85,14 +118,14 @@ def sum_of(*texts):
     return made.hexdigest()[:12]
 
 
-def uncommented(file):
+def uncommented(file: pathlib.Path) -> bytes:
     """Returns the words of the lines of a file that aren't comments, so that a new layout changes nothing."""
     mark = b"//" if file.suffix == ".rt" else b"--"
     lines = (line for line in file.read_bytes().splitlines() if not line.lstrip().startswith(mark))
     return b" ".join(word for line in lines for word in line.split())
 
 
-def crate_sum(crate):
+def crate_sum(crate: pathlib.Path) -> str:
     """Returns the sum of what a check reads of the crate, without comments and layout."""
     files = sorted(file for part in ("src", "specs", "proofs") for file in (crate / part).rglob("*") if file.is_file())
     return sum_of(*(part for file in files for part in (str(file.relative_to(crate)).encode(), uncommented(file))))
@@ -101,18 +134,18 @@ def crate_sum(crate):
 class Rows:
     """The lines of results.tsv, which crates that are tried side by side share."""
 
-    def __init__(self, edits):
+    def __init__(self, edits: dict[str, list[pathlib.Path]]) -> None:
         """Reads the lines that earlier runs left of these edits."""
         lines = RESULTS.read_text(encoding="utf-8").splitlines()[1:] if RESULTS.is_file() else []
-        rows = [dict(zip(COLUMNS, line.split("\t"))) for line in lines]
+        rows = [Row(*line.split("\t")) for line in lines]
         there = {(name, label(edit)) for name, found in edits.items() for edit in found}
-        self.by_edit, self.lock = {key: row for row in rows if (key := (row["crate"], row["edit"])) in there}, threading.Lock()
+        self.by_edit, self.lock = {key: row for row in rows if (key := (row.crate, row.edit)) in there}, threading.Lock()
 
-    def keep(self, rows):
+    def keep(self, rows: list[Row]) -> None:
         """Takes in rows, and writes all lines in the order of crates and edits."""
         with self.lock:
-            self.by_edit.update({(row["crate"], row["edit"]): row for row in rows})
-            lines = ["\t".join(COLUMNS), *("\t".join(row[name] for name in COLUMNS) for _, row in sorted(self.by_edit.items()))]
+            self.by_edit.update({(row.crate, row.edit): row for row in rows})
+            lines = ["\t".join(Row._fields), *("\t".join(row) for _, row in sorted(self.by_edit.items()))]
             part = RESULTS.with_suffix(".part")
             part.write_text("\n".join(lines) + "\n", encoding="utf-8")
             os.replace(part, RESULTS)
@@ -121,7 +154,7 @@ class Rows:
 # ---- a copy of the repository
 
 
-def linked(one, other):
+def linked(one: str, other: str) -> None:
     """Gives a file a second name, or copies it: a build replaces the files of a library and changes none."""
     try:
         os.link(one, other)
@@ -132,7 +165,7 @@ def linked(one, other):
 class Room:
     """A copy of the repository, in which edits of one crate are tried."""
 
-    def __init__(self, folder, name, shelf):
+    def __init__(self, folder: str, name: str, shelf: pathlib.Path) -> None:
         """Copies the text of all crates, what was built of those below the crate, and what checks of it kept."""
         self.folder, self.name, self.shelf = pathlib.Path(folder), name, shelf
         self.crate = self.folder / "crates" / name
@@ -147,30 +180,30 @@ class Room:
         if kept.is_dir():
             shutil.copytree(kept, self.crate / "out" / "incremental")
 
-    def below(self):
+    def below(self) -> set[str]:
         """Returns the crates below this one."""
         return below([self.name], lists()) - {self.name}
 
-    def library(self, name):
+    def library(self, name: str) -> pathlib.Path:
         """Returns where a crate's library is."""
         return self.folder / "crates" / name / "out" / "rlib"
 
-    def leave(self):
+    def leave(self) -> None:
         """Puts the libraries that were built here on the shelf, for the crates that come later."""
         for other in self.below():
             if (self.library(other) / "stamp").is_file() and not (self.shelf / other).exists():
                 shutil.copytree(self.library(other), self.shelf / other, copy_function=linked)
 
-    def check(self, words):
+    def check(self, words: list[str]) -> tuple[int, str, float]:
         """Runs rt check, and returns its status, what it said, and the seconds of a processor that it took."""
         with subprocess.Popen(["rt", "check", "--jobs", "1", *words], cwd=self.crate, stdin=subprocess.DEVNULL, stdout=subprocess.PIPE,
                               stderr=subprocess.STDOUT, text=True, errors="replace") as ran:
-            said = ran.stdout.read()
+            said = ran.stdout.read() if ran.stdout else ""
             _, status, used = os.wait4(ran.pid, 0)
             ran.returncode = os.waitstatus_to_exitcode(status)
         return ran.returncode, said, used.ru_utime + used.ru_stime
 
-    def check_functions(self, functions):
+    def check_functions(self, functions: Sequence[Function]) -> "Check":
         """Checks the functions, each by the first of its names that the check knows; returns the check, with the names."""
         steps, spent = [0] * len(functions), 0.0
         while True:
@@ -185,7 +218,7 @@ class Room:
                 steps[at] += 1
 
     @contextlib.contextmanager
-    def changed(self, changes):
+    def changed(self, changes: list[Change]) -> Iterator[None]:
         """Has these changes in the crate's files for a while."""
         was = {path: (self.crate / path).read_text(encoding="utf-8") for change in changes for path in change.files}
         texts = {path: text.split("\n") for path, text in was.items()}
@@ -204,42 +237,42 @@ class Room:
 # ---- what a check said
 
 
-def fits_nothing(status, said):
-    """Whether a check says that no function has a name that --only gave it."""
+def fits_nothing(status: int, said: str) -> bool:
+    """Returns whether a check says that no function has a name that --only gave it."""
     return status == 2 and not re.search(r"^only=", said, re.M) and ("only" in said or "has no function" in said)
 
 
-def whole_lines(said):
+def whole_lines(said: str) -> list[str]:
     """Returns the lines of what a check said, each with the indented ones below it, which continue it."""
     return re.sub(r"\n {2,}(?=\S)", " ", said).splitlines()
 
 
-def outcome_of(status, said, edited):
+def outcome_of(status: int, said: str, edited: set[str]) -> tuple[str | None, str]:
     """Returns what a check with an edit of these files came to, and the line that says why; None if what it checked is proved."""
     lines = whole_lines(said)
-    errors = [(found["file"], found["said"], line) for line in lines if (found := ERROR.match(line))]
+    errors = [Error(found["file"], found["said"], line) for line in lines if (found := ERROR.match(line))]
     has_ended = any(line.startswith(("only=", "logic=")) for line in lines)
     if status == 0:
         return None, ""
-    unreadable = [line for file, text, line in errors if file in edited and UNREADABLE.search(text)]
+    unreadable = [it.line for it in errors if it.file in edited and UNREADABLE.search(it.said)]
     compiler = [line for line in lines if re.search(r"\berror\[[\w-]+\]", line)]
     if unreadable or (compiler and not has_ended):
         return BAD, [*unreadable, *compiler][0]
     if status == 3 and LIMIT.search(said):
-        return AT_LIMIT, next((line for _, _, line in errors), next(line for line in lines if LIMIT.search(line)))
+        return AT_LIMIT, next((it.line for it in errors), next(line for line in lines if LIMIT.search(line)))
     if status != 1 or not has_ended:
         return NOT_TRIED, f"status {status}: {next((line for line in reversed(lines) if line), '')}"
-    meant = [line for file, text, line in errors if not (file.startswith("proofs/") and GONE.search(text))]
+    meant = [it.line for it in errors if not (it.file.startswith("proofs/") and GONE.search(it.said))]
     if errors and not meant:
-        return BY_NAME, errors[0][2]
+        return BY_NAME, errors[0].line
     unproved = [line for line in lines if UNPROVED.match(line)]
     if not meant and unproved and not any(is_of_meaning(line) for line in unproved):
         return BAD, next((line for line in unproved if BORROWS.search(line)), unproved[0])
     return REFUSED, next(iter(meant), next(filter(is_of_meaning, unproved), lines[-1]))
 
 
-def is_of_meaning(verdict):
-    """Whether a function isn't proved for a goal of its own: not for a function that it calls, nor for the borrow checker."""
+def is_of_meaning(verdict: str) -> bool:
+    """Returns whether a function isn't proved for a goal of its own: not for a function that it calls, nor for the borrow checker."""
     is_by_calls = CALLS.search(verdict) and CALLS.sub("", verdict).endswith((": no proof", ": not proved"))
     return not BORROWS.search(verdict) and not is_by_calls
 
@@ -247,29 +280,29 @@ def is_of_meaning(verdict):
 class Check:
     """What a check of functions said, each of which it was asked by a name."""
 
-    def __init__(self, status, said, seconds, names):
+    def __init__(self, status: int, said: str, seconds: float, names: dict[Function, str]) -> None:
         """Reads the verdicts and the errors."""
         self.status, self.said, self.seconds, self.names = status, said, seconds, names
         lines = whole_lines(said)
         self.errors = [found for line in lines if (found := ERROR.match(line))]
-        self.verdicts = {}
+        self.verdicts: dict[str, list[re.Match[str]]] = {}
         for found in filter(None, map(VERDICT.match, lines)):
             self.verdicts.setdefault(owner_of(found["name"]), []).append(found)
 
-    def is_of(self, error, change):
-        """Whether an error is in the lines or the proof files of a function that this changes."""
+    def is_of(self, error: re.Match[str], change: Change) -> bool:
+        """Returns whether an error is in the lines or the proof files of a function that this changes."""
         if change.has_line(error["file"], int(error["line"]) - 1):
             return True
         return any(error["file"].startswith(f"proofs/{self.names[it].replace('::', '/')}/") for it in change.functions)
 
-    def is_verdict_on(self, changes):
-        """Whether the check came to its end, could read the changes, and has no error outside their functions."""
+    def is_verdict_on(self, changes: list[Change]) -> bool:
+        """Returns whether the check came to its end, could read the changes, and has no error outside their functions."""
         edited = {path for change in changes for path in change.files}
         unread = [it for it in self.errors if it["code"] or it["file"] in edited and UNREADABLE.search(it["said"])]
         strange = [it for it in self.errors if not any(self.is_of(it, change) for change in changes)]
         return self.status in (0, 1, 3) and bool(re.search(r"^only=", self.said, re.M)) and not unread and not strange
 
-    def cause_in(self, change):
+    def cause_in(self, change: Change) -> str | None:
         """Returns the line by which the change is refused for its meaning, in a function of its own, or None."""
         own = [it for it in self.errors if self.is_of(it, change)]
         if any(LIMIT.search(it[0]) for it in own):
@@ -280,17 +313,17 @@ class Check:
         verdicts = [it for function in change.functions for it in self.verdicts.get(self.names[function], [])]
         return next((it[0] for it in verdicts if CALLS.sub("", it["said"]).startswith("no proof: ") and is_of_meaning(it[0])), None)
 
-    def proves(self, change):
-        """Whether each function that this changes is proved."""
+    def proves(self, change: Change) -> bool:
+        """Returns whether each function that this changes is proved."""
         found = [self.verdicts.get(self.names[it], []) for it in change.functions]
         return all(found) and all(it["said"] == "proved" for verdicts in found for it in verdicts)
 
-    def checked(self, change):
+    def checked(self, change: Change) -> str:
         """Returns the names by which the change's functions were checked."""
         return " ".join(self.names[it] for it in change.functions)
 
 
-def owner_of(name):
+def owner_of(name: str) -> str:
     """Returns the name of the function in which a closure is, and that of any other function as it is."""
     found = CLOSURE.fullmatch(name)
     return found["module"] + found["name"] if found else name
@@ -299,21 +332,21 @@ def owner_of(name):
 # ---- trying
 
 
-def try_alone(room, change, spent, is_proved=False):
-    """Tries a change alone, at once on the whole crate if its functions are known to be proved; returns outcome, why, what was checked, seconds."""
+def try_alone(room: Room, change: Change, spent: float, is_proved: bool = False) -> Came:
+    """Tries a change alone, at once on the whole crate if its functions are known to be proved; returns what came of it."""
     with room.changed([change]):
         if change.functions and not is_proved:
             check = room.check_functions(change.functions)
             outcome, why = outcome_of(check.status, check.said, change.files)
             spent += check.seconds
             if outcome and not fits_nothing(check.status, check.said):
-                return outcome, why, check.checked(change), spent
+                return Came(outcome, why, check.checked(change), spent)
         status, said, seconds = room.check([])
         outcome, why = outcome_of(status, said, change.files)
-        return outcome or NOT_REFUSED, why, "crate", spent + seconds
+        return Came(outcome or NOT_REFUSED, why, "crate", spent + seconds)
 
 
-def parts_of(changes, check):
+def parts_of(changes: list[Change], check: Check) -> list[list[Change]]:
     """Returns the lists in which to try the changes of a round that can't be judged."""
     blamed = [it for it in changes if any(check.is_of(error, it) for error in check.errors if error["code"] or UNREADABLE.search(error["said"]))]
     others = [it for it in changes if it not in blamed]
@@ -322,13 +355,13 @@ def parts_of(changes, check):
     return [changes[: len(changes) // 2], changes[len(changes) // 2 :]]
 
 
-def try_round(room, changes, asked, spent=0.0):
-    """Tries changes of different functions by one check, and yields each with outcome, why, what was checked and seconds, of which each has spent
-    some before. Nothing is begun after the time that was asked for."""
+def try_round(room: Room, changes: list[Change], asked: argparse.Namespace, spent: float = 0.0) -> Iterator[tuple[Change, Came]]:
+    """Tries changes of different functions by one check, and yields each with what came of it; each has spent some seconds
+    before. Nothing is begun after the time that was asked for."""
     if time.monotonic() > asked.ends:
         return
     if len(changes) == 1:
-        yield changes[0], *try_alone(room, changes[0], spent)
+        yield changes[0], try_alone(room, changes[0], spent)
         return
     with room.changed(changes):
         check = room.check_functions([function for change in changes for function in change.functions])
@@ -340,67 +373,68 @@ def try_round(room, changes, asked, spent=0.0):
     causes = [(change, check.cause_in(change)) for change in changes]
     for change, why in causes:
         if why:
-            yield change, REFUSED, why, check.checked(change), spent
+            yield change, Came(REFUSED, why, check.checked(change), spent)
     for change, why in causes:
         if not why and time.monotonic() < asked.ends:
-            yield change, *try_alone(room, change, spent, check.proves(change))
+            yield change, try_alone(room, change, spent, check.proves(change))
 
 
 # ---- all of them
 
 
-def by_layer():
+def by_layer() -> list[str]:
     """Returns the crates, each after those that it uses."""
-    used, found = lists(), []
+    used = lists()
+    found: list[str] = []
     while len(found) < len(used):
         found += [name for name in used if name not in found and all(it in found or it not in used for it in used[name])]
     return found
 
 
-def edits_by_crate():
+def edits_by_crate() -> dict[str, list[pathlib.Path]]:
     """Returns the edits of each crate."""
-    found = {}
+    found: dict[str, list[pathlib.Path]] = {}
     for folder, crate in folders():
         found.setdefault(crate.name, []).extend(sorted(folder.glob("*.edit")) if folder.is_dir() else [])
     return found
 
 
-def is_built(name):
-    """Whether the libraries below the crate are built."""
+def is_built(name: str) -> bool:
+    """Returns whether the libraries below the crate are built."""
     return all((TOP / "crates" / it / "out" / "rlib" / "stamp").is_file() for it in below([name], lists()) - {name})
 
 
-def commit():
+def commit() -> str:
     """Returns the commit that is checked out."""
     ran = subprocess.run(["git", "rev-parse", "--short=12", "HEAD"], cwd=TOP, capture_output=True, text=True)
     return ran.stdout.strip() or "none"
 
 
-def label(edit):
+def label(edit: pathlib.Path) -> str:
     """Returns an edit's path below the repository, without its crate, which is said beside it."""
     return f"{'gate' if edit.parent.name == 'must-fail' else 'more'}/{edit.stem}"
 
 
-def is_known(row, sums, again):
-    """Whether a line is of this text and needs no further try."""
-    return row and (row["crate_sum"], row["edit_sum"]) == sums and again not in ("all", row["outcome"]) and row["outcome"] != NOT_TRIED
+def is_known(row: Row | None, sums: tuple[str, str], again: str | None) -> bool:
+    """Returns whether a line is of this text and needs no further try."""
+    return row is not None and (row.crate_sum, row.edit_sum) == sums and again not in ("all", row.outcome) and row.outcome != NOT_TRIED
 
 
-def outcomes_of(room, edits, asked):
-    """Tries the edits, and yields each with outcome, why, what was checked, and seconds of a processor."""
+def outcomes_of(room: Room, edits: list[pathlib.Path], asked: argparse.Namespace) -> Iterator[tuple[pathlib.Path, Came]]:
+    """Tries the edits, and yields each with what came of it."""
     changes = []
     for edit in edits:
         try:
             changes.append(change_of(edit, room.crate))
         except (Fault, OSError, ValueError) as why:
-            yield edit, BAD, str(why), "", 0.0
+            yield edit, Came(BAD, str(why), "", 0.0)
     rounds = [*rounds_of([it for it in changes if it.is_of_bodies]), *([it] for it in changes if not it.is_of_bodies)]
-    for changes in rounds:
-        for change, *came in try_round(room, changes, asked):
-            yield change.edit, *came
+    for tried in rounds:
+        for change, came in try_round(room, tried, asked):
+            yield change.edit, came
 
 
-def try_crate(name, edits, rows, asked):
+def try_crate(name: str, edits: list[pathlib.Path], rows: Rows, asked: argparse.Namespace) -> None:
     """Tries the crate's edits that are not known, and keeps each outcome."""
     text = crate_sum(TOP / "crates" / name)
     sums = {edit: (text, sum_of(edit.read_bytes())) for edit in edits if asked.only in edit.name}
@@ -409,15 +443,14 @@ def try_crate(name, edits, rows, asked):
         return
     with tempfile.TemporaryDirectory(prefix=f"refusals-{name}-") as folder:
         room = Room(folder, name, asked.shelf)
-        for edit, outcome, why, checked, seconds in outcomes_of(room, todo, asked):
-            why = " ".join(EXPECTED.sub("", why.replace(folder, "")).split())[:160]
-            values = (name, label(edit), outcome, checked, why, f"{seconds:.0f}", asked.commit, *sums[edit])
-            rows.keep([dict(zip(COLUMNS, values))])
-            print(f"{name} {label(edit)}: {outcome} ({checked}, {seconds:.0f} s): {why}", flush=True)
+        for edit, came in outcomes_of(room, todo, asked):
+            why = " ".join(EXPECTED.sub("", came.why.replace(folder, "")).split())[:160]
+            rows.keep([Row(name, label(edit), came.outcome, came.checked, why, f"{came.seconds:.0f}", asked.commit, *sums[edit])])
+            print(f"{name} {label(edit)}: {came.outcome} ({came.checked}, {came.seconds:.0f} s): {why}", flush=True)
         room.leave()
 
 
-def try_all(edits, rows, asked):
+def try_all(edits: dict[str, list[pathlib.Path]], rows: Rows, asked: argparse.Namespace) -> None:
     """Tries the edits of the crates that are asked for; if it is interrupted, checks that run end first."""
     names = [name for name in by_layer() if not asked.crates or name in asked.crates]
     with tempfile.TemporaryDirectory(prefix="refusals-shelf-") as folder, concurrent.futures.ThreadPoolExecutor(asked.jobs) as pool:
@@ -431,30 +464,30 @@ def try_all(edits, rows, asked):
             raise
 
 
-def present_lines(rows, edits):
+def present_lines(rows: Rows, edits: dict[str, list[pathlib.Path]]) -> int:
     """Returns how many lines are of the present text of their crate and of their edit."""
     count = 0
     for name, found in edits.items():
         text = crate_sum(TOP / "crates" / name)
         sums = ((rows.by_edit.get((name, label(edit))), (text, sum_of(edit.read_bytes()))) for edit in found)
-        count += sum(bool(row) and (row["crate_sum"], row["edit_sum"]) == both for row, both in sums)
+        count += sum(row is not None and (row.crate_sum, row.edit_sum) == both for row, both in sums)
     return count
 
 
-def report(rows, edits):
+def report(rows: Rows, edits: dict[str, list[pathlib.Path]]) -> int:
     """Prints the edits that were not refused for their meaning, and the counts; returns the exit status."""
     lines = [row for _, row in sorted(rows.by_edit.items())]
     for row in lines:
-        if row["outcome"] != REFUSED:
-            print(f"{row['outcome']}: {row['crate']} {row['edit']}: {row['why']}")
-    counts = ", ".join(f"{sum(row['outcome'] == it for row in lines)} {it}" for it in OUTCOMES)
+        if row.outcome != REFUSED:
+            print(f"{row.outcome}: {row.crate} {row.edit}: {row.why}")
+    counts = ", ".join(f"{sum(row.outcome == it for row in lines)} {it}" for it in OUTCOMES)
     print(f"{len(lines)} of {sum(map(len, edits.values()))} edits have a line: {counts}")
-    commits = collections.Counter(row["commit"] for row in lines)
+    commits = collections.Counter(row.commit for row in lines)
     print(f"{present_lines(rows, edits)} lines are of the present text of their crate; by commit: {', '.join(f'{n} {it}' for it, n in commits.most_common())}")
-    return 0 if all(row["outcome"] == REFUSED for row in lines) else 1
+    return 0 if all(row.outcome == REFUSED for row in lines) else 1
 
 
-def arguments():
+def arguments() -> argparse.Namespace:
     """Returns what the script is asked."""
     words = asked_of(__doc__, None)
     words.add_argument("crates", nargs="*", metavar="CRATE", help="these crates alone")
@@ -469,7 +502,7 @@ def arguments():
     return asked
 
 
-def main():
+def main() -> int:
     """Tries what is asked, and reports."""
     asked, edits = arguments(), edits_by_crate()
     rows = Rows(edits)

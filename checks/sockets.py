@@ -9,6 +9,7 @@ standard output and its status say; a case of `--host`, and one whose name begin
 library alone. One line for each failing case; the last line is `N passed, M failed`.
 """
 import contextlib
+import functools
 import json
 import resource
 import select
@@ -17,6 +18,7 @@ import socket
 import subprocess
 import threading
 import time
+from collections.abc import Callable, Mapping, Sequence
 
 from crates import asked_of
 from servers import PATIENCE, THRIFT, Client, Failed, Server, batch, check, get, head, in_url, limited_by, post, post_body, run_cases
@@ -29,16 +31,17 @@ ALL_TAKEN = "as many connections are open as --connections allows"
 LATE = 1_000_000_000
 
 
-def found(client, trace):
+def found(client: Client, trace: int) -> None:
+    """Checks that a client finds the trace, and no other."""
     answer = client.ask(get(f"/api/traces/{trace:x}"), 200)
     check(answer.traces() == [f"{trace:016x}"], f"the answer for {trace:x} is {answer.body[:200]!r}")
 
 
-def all_at_once(calls):
-    """The calls, each in a thread of its own; the first failure is raised."""
-    faults = []
+def all_at_once(calls: Sequence[Callable[[], None]]) -> None:
+    """Makes the calls, each in a thread of its own, and raises the first failure."""
+    faults: list[Failed | OSError] = []
 
-    def guarded(call):
+    def guarded(call: Callable[[], None]) -> None:
         try:
             call()
         except (Failed, OSError) as fault:
@@ -55,7 +58,8 @@ def all_at_once(calls):
 
 # The cases.
 
-def own_traces(server, number, count, accepted):
+def own_traces(server: Server, number: int, count: int, accepted: list[int]) -> None:
+    """Submits this number of batches, each with a trace of its own, and finds each trace that was accepted."""
     with server.client() as client:
         for place in range(1, count + 1):
             trace = number << 32 | place
@@ -67,10 +71,11 @@ def own_traces(server, number, count, accepted):
                 accepted.append(trace)
 
 
-def eight_clients(workers):
-    accepted = []
+def eight_clients(workers: int) -> None:
+    """Checks that eight clients at once find what they submitted."""
+    accepted: list[int] = []
     with Server("--port", 0, "--workers", workers) as server:
-        all_at_once([lambda n=n: own_traces(server, n, 50, accepted) for n in range(1, 9)])
+        all_at_once([functools.partial(own_traces, server, n, 50, accepted) for n in range(1, 9)])
         with server.client() as client:
             for trace in accepted:
                 found(client, trace)
@@ -79,7 +84,8 @@ def eight_clients(workers):
     check(len(accepted) == 400, f"{len(accepted)} of 400 batches were accepted: the others were answered 503")
 
 
-def stalled_heads():
+def stalled_heads() -> None:
+    """Checks that clients that stall in a head are cut, and others are served meanwhile."""
     with Server("--port", 0, "--workers", 4, "--idle", 1) as server, contextlib.ExitStack() as stack:
         stalled = [stack.enter_context(server.client()) for _ in range(3)]
         for client in stalled:
@@ -95,7 +101,8 @@ def stalled_heads():
         server.is_well(0xE12)
 
 
-def stalled_body():
+def stalled_body() -> None:
+    """Checks that a client that stalls in a body is cut, and its batch isn't found."""
     with Server("--port", 0, "--workers", 2, "--idle", 1) as server, server.client() as client:
         client.send(post(1)[:-20])
         begin = time.monotonic()
@@ -108,7 +115,8 @@ def stalled_body():
             other.ask(get("/api/traces/1"), 404)
 
 
-def stalled_everywhere():
+def stalled_everywhere() -> None:
+    """Checks that a client is served while one stalls at each worker."""
     with Server("--port", 0, "--workers", 2, "--idle", 1) as server, contextlib.ExitStack() as stack:
         for _ in range(2):
             stack.enter_context(server.client()).send(b"GET /api/serv")
@@ -119,7 +127,8 @@ def stalled_everywhere():
         check(time.monotonic() - begin < 5, "with a stalled client at each worker the next one waited for more than 5 s")
 
 
-def idle_between_requests():
+def idle_between_requests() -> None:
+    """Checks that a connection stays between requests, and is closed after the idle time."""
     with Server("--port", 0, "--workers", 1, "--idle", 1) as server, server.client() as client:
         client.ask(post(1), 202)
         time.sleep(0.5)
@@ -133,7 +142,8 @@ def idle_between_requests():
         check(0.5 < took < 4, f"an idle client was cut after {took:.1f} s")
 
 
-def slow_sender():
+def slow_sender() -> None:
+    """Checks that pauses below the idle time end no session."""
     with Server("--port", 0, "--workers", 1, "--idle", 2) as server, server.client() as client:
         request = post(1)
         for place in range(0, len(request), 40):
@@ -143,14 +153,16 @@ def slow_sender():
         check(status == 202, f"a client with pauses below the idle time was answered {status}")
 
 
-def no_idle_limit():
+def no_idle_limit() -> None:
+    """Checks that `--idle 0` closes no connection."""
     with Server("--port", 0, "--workers", 1, "--idle", 0) as server, server.client() as client:
         client.ask(post(1), 202)
         time.sleep(2.5)
         found(client, 1)
 
 
-def goes_away_in_a_body(leave):
+def goes_away_in_a_body(leave: Callable[[Client], None]) -> None:
+    """Checks that a client that goes away in a body does no harm."""
     with Server("--port", 0, "--workers", 2) as server:
         with server.client() as before:
             before.ask(post(1), 202)
@@ -163,7 +175,8 @@ def goes_away_in_a_body(leave):
         server.is_well()
 
 
-def goes_away_unread():
+def goes_away_unread() -> None:
+    """Checks that clients that leave answers unread do no harm."""
     with Server("--port", 0, "--workers", 2) as server:
         with server.client() as client:
             client.ask(post(1), 202)
@@ -174,7 +187,8 @@ def goes_away_unread():
         server.is_well()
 
 
-def sessions_end():
+def sessions_end() -> None:
+    """Checks that the program ends after its sessions, one after the other."""
     with Server("--port", 0, "--sessions", 3) as server:
         for trace in (1, 2, 3):
             with server.client() as client:
@@ -183,14 +197,16 @@ def sessions_end():
         server.served(3, 3)
 
 
-def sessions_end_at_once():
+def sessions_end_at_once() -> None:
+    """Checks that the program ends after its sessions, which are there at once."""
     with Server("--port", 0, "--workers", 2, "--sessions", 8) as server:
-        accepted = []
-        all_at_once([lambda n=n: own_traces(server, n, 5, accepted) for n in range(1, 9)])
+        accepted: list[int] = []
+        all_at_once([functools.partial(own_traces, server, n, 5, accepted) for n in range(1, 9)])
         server.served(8, len(accepted))
 
 
-def last_session_is_whole():
+def last_session_is_whole() -> None:
+    """Checks that the program ends only when the last session has ended."""
     with Server("--port", 0, "--workers", 4, "--sessions", 2) as server:
         with server.client() as first:
             first.ask(post(1), 202)
@@ -202,27 +218,29 @@ def last_session_is_whole():
         server.served(2, 2)
 
 
-def one_session():
+def one_session() -> None:
+    """Checks that the program ends after one session."""
     with Server("--port", 0, "--workers", 1, "--sessions", 1) as server:
         with server.client() as client:
             client.ask(post(1), 202)
         server.served(1, 1)
 
 
-def is_sent_bytes(client):
-    """Whether bytes come; not if the connection is closed or reset instead."""
+def is_sent_bytes(client: Client) -> bool:
+    """Returns whether bytes come; not if the connection is closed or reset instead."""
     with contextlib.suppress(ConnectionResetError):
         return client.more()
     return False
 
 
-def more_clients_than_sessions():
-    """Of six clients that are there at once three are served. Nothing comes to the others, which are closed when the program ends."""
+def more_clients_than_sessions() -> None:
+    """Checks that of six clients at once three are served. Nothing comes to the others, which are closed when the program ends."""
     with Server("--port", 0, "--workers", 2, "--sessions", 3) as server, contextlib.ExitStack() as stack:
         clients = [stack.enter_context(server.client()) for _ in range(6)]
         for trace, client in enumerate(clients, 1):
             client.send(post(trace))
-        others, served = {client.socket: client for client in clients}, []
+        others = {client.socket: client for client in clients}
+        served: list[Client] = []
         while len(served) < 3:
             ready, _, _ = select.select(list(others), [], [], PATIENCE)
             check(ready, f"{len(served)} of 6 clients were answered, and not 3")
@@ -242,7 +260,8 @@ def more_clients_than_sessions():
             check(not is_sent_bytes(client), f"a client beyond the three was sent {client.input!r}")
 
 
-def full_store():
+def full_store() -> None:
+    """Checks that a full store refuses batches, and that the books say so."""
     with Server("--port", 0, "--workers", 1, "--sessions", 1, "--batches", 2) as server:
         with server.client() as client:
             for trace, status in ((1, 202), (2, 202), (3, 503), (4, 503), (5, 503)):
@@ -250,7 +269,8 @@ def full_store():
         server.served(1, 2, 3)
 
 
-def has_ipv6():
+def has_ipv6() -> bool:
+    """Returns whether this machine has IPv6."""
     try:
         socket.create_server(("::1", 0), family=socket.AF_INET6).close()
     except OSError:
@@ -258,14 +278,14 @@ def has_ipv6():
     return True
 
 
-def maps_ipv4():
-    """Whether a socket of every IPv6 address takes connections to IPv4 addresses too."""
+def maps_ipv4() -> bool:
+    """Returns whether a socket of every IPv6 address takes connections to IPv4 addresses too."""
     with open("/proc/sys/net/ipv6/bindv6only") as file:
         return file.read().strip() == "0"
 
 
-def reached_by(host):
-    """The loopback addresses by which a client reaches a server of this host, and those by which it doesn't."""
+def reached_by(host: str) -> tuple[list[str], list[str]]:
+    """Returns the loopback addresses by which a client reaches a server of this host, and those by which it doesn't."""
     ipv4, ipv6 = ["127.0.0.1", "127.0.0.2"], ["::1"]
     if host == "127.0.0.1":
         return ipv4[:1], ipv4[1:] + ipv6
@@ -276,7 +296,8 @@ def reached_by(host):
     return (ipv6 + ipv4, []) if maps_ipv4() else (ipv6, ipv4)
 
 
-def is_reached(server, address):
+def is_reached(server: Server, address: str) -> bool:
+    """Returns whether a server is reached by an address."""
     try:
         server.client(host=address).socket.close()
     except OSError:
@@ -284,8 +305,8 @@ def is_reached(server, address):
     return True
 
 
-def listens_on(host, is_exposed):
-    """It is reached by the addresses of its host alone, and says so if they are more than this machine's own."""
+def listens_on(host: str, is_exposed: bool) -> str | None:
+    """Checks that a server is reached by the addresses of its host alone, and warns if other machines have one of them."""
     if ":" in host and not has_ipv6():
         return "not tried: this machine has no IPv6"
     reached, unreached = reached_by(host)
@@ -302,7 +323,8 @@ def listens_on(host, is_exposed):
     return None
 
 
-def port_in_use(host):
+def port_in_use(host: str) -> str | None:
+    """Checks that the program says that a port is in use, and ends."""
     if ":" in host and not has_ipv6():
         return "not tried: this machine has no IPv6"
     with socket.create_server((host, 0), family=socket.AF_INET6 if ":" in host else socket.AF_INET) as taken:
@@ -318,8 +340,8 @@ def port_in_use(host):
     return None
 
 
-def closing(request, status, rest=b"", workers=1):
-    """A client that has sent everything before it reads, and one that reads meanwhile, get the response whole and then the end."""
+def closing(request: bytes, status: int, rest: bytes = b"", workers: int = 1) -> None:
+    """Checks that a client that has sent everything before it reads, and one that reads meanwhile, get the response whole and then the end."""
     with Server("--port", 0, "--workers", workers) as server:
         with server.client() as client:
             try:
@@ -348,34 +370,40 @@ def closing(request, status, rest=b"", workers=1):
         server.is_well()
 
 
-def drip(client, rest):
+def drip(client: Client, rest: bytes) -> None:
+    """Sends bytes with pauses, until the connection ends."""
     with contextlib.suppress(OSError):
         for place in range(0, len(rest), 100_000):
             client.send(rest[place:place + 100_000])
             time.sleep(0.01)
 
 
-def body_too_large():
+def body_too_large() -> None:
+    """Checks the response to a body that is too large."""
     line = head("POST /api/traces HTTP/1.1", f"Content-Type: {THRIFT}", "Content-Length: 5000000")
     closing(line, 413, bytes(5_000_000))
 
 
-def bad_head():
+def bad_head() -> None:
+    """Checks the response to a head that can't be read."""
     closing(b"GET /api/services\r\n\r\n", 400)
     closing(b"\x16\x03\x01\x02\x00\x01\x00\x01\xfc\x03\x03 not HTTP at all\r\n\r\n", 400, bytes(100_000))
 
 
-def head_too_long():
+def head_too_long() -> None:
+    """Checks the response to a head that is too long."""
     closing(b"GET /api/services HTTP/1.1\r\n", 400, b"".join(b"X-%d: %s\r\n" % (n, b"y" * 500) for n in range(200)) + b"\r\n")
 
 
-def method_not_allowed():
+def method_not_allowed() -> None:
+    """Checks the response to methods that a target doesn't have."""
     body = batch(1)
     closing(head("DELETE /api/traces HTTP/1.1", f"Content-Length: {len(body)}") + body, 405)
     closing(head("PUT /api/services HTTP/1.1"), 405, get("/api/services") * 2000)
 
 
-def asked_to_close():
+def asked_to_close() -> None:
+    """Checks that nothing follows the response after which the client asked to close."""
     request = head("GET /api/services HTTP/1.1", "Connection: close")
     for asked in (request, b"GET /api/services HTTP/1.0\r\n\r\n"):
         with Server("--port", 0, "--workers", 1) as server, server.client() as client:
@@ -385,7 +413,8 @@ def asked_to_close():
             check(client.reads_end() == b"", "something follows a closing response")
 
 
-def half_closed():
+def half_closed() -> None:
+    """Checks that a client that has ended its side gets its responses."""
     with Server("--port", 0, "--workers", 1) as server, server.client() as client:
         client.send(post(1) + get("/api/traces/1"))
         client.socket.shutdown(socket.SHUT_WR)
@@ -393,7 +422,8 @@ def half_closed():
         check(client.reads_end() == b"", "something follows the last response")
 
 
-def pipelined():
+def pipelined() -> None:
+    """Checks that pipelined requests are answered in turn."""
     with Server("--port", 0, "--workers", 1) as server, server.client() as client:
         client.send(b"".join(post(trace) + get(f"/api/traces/{trace:x}") + get("/api/x") for trace in range(1, 101)))
         for trace in range(1, 101):
@@ -406,8 +436,8 @@ def pipelined():
             check(statuses == [202, 200, 404], f"the requests of trace {trace} were answered {statuses}")
 
 
-def pipelined_while_answered():
-    """A third request comes while the second one, which came with the first, is being answered."""
+def pipelined_while_answered() -> None:
+    """Checks a third request that comes while the second one, which came with the first, is being answered."""
     request = get("/api/services")
     with Server("--port", 0, "--workers", 1) as server, server.client() as client:
         for number in range(20_000):
@@ -419,7 +449,8 @@ def pipelined_while_answered():
                 check(client.response().status == 200, "not answered 200")
 
 
-def pipelined_in_pieces():
+def pipelined_in_pieces() -> None:
+    """Checks that pipelined requests that come in pieces are answered in turn."""
     with Server("--port", 0, "--workers", 1) as server, server.client() as client:
         requests = b"".join(post(trace) + get(f"/api/traces/{trace:x}") for trace in range(1, 4))
         for byte in requests:
@@ -432,8 +463,8 @@ def pipelined_in_pieces():
         check(statuses == [202, 200] * 3, f"the requests were answered {statuses}")
 
 
-def large_answers_unread():
-    """A client that asks for much before it reads: the server's writes have to wait."""
+def large_answers_unread() -> None:
+    """Checks a client that asks for much before it reads, so that the server's writes have to wait."""
     with Server("--port", 0, "--workers", 2, "--idle", 5) as server, server.client() as client:
         for _ in range(100):
             client.ask(post(1, operation="o" * 2000), 202)
@@ -444,8 +475,8 @@ def large_answers_unread():
         check(len(lengths) == 1 and min(lengths) > 200_000, f"the answers have {lengths} bytes")
 
 
-def in_turn_at_two_workers():
-    """200 connections at two workers, each with requests of its own, all under way at once."""
+def in_turn_at_two_workers() -> None:
+    """Checks 200 connections at two workers, each with requests of its own, all under way at once."""
     with Server("--port", 0, "--workers", 2) as server, contextlib.ExitStack() as stack:
         clients = [stack.enter_context(server.client()) for _ in range(200)]
         for turn in range(5):
@@ -458,8 +489,8 @@ def in_turn_at_two_workers():
                 check(client.response().traces() == [f"{1000 * (number + 1) + turn:016x}"], "another trace was answered")
 
 
-def cut_at_each_byte():
-    """A request with a pause at each of its bytes, during which the one worker answers another client."""
+def cut_at_each_byte() -> None:
+    """Checks a request with a pause at each of its bytes, during which the one worker answers another client."""
     requests = [post(1), get("/api/traces/1"), post(2) + get("/api/traces/2")]
     with Server("--port", 0, "--workers", 1) as server, server.client() as other:
         for request in requests:
@@ -472,15 +503,15 @@ def cut_at_each_byte():
                     check(set(statuses) <= {200, 202}, f"cut at {cut}, {request[:30]!r} was answered {statuses}")
 
 
-def large_store(server, count=100):
-    """A trace whose answer has this number of spans with a long operation each; that answer."""
+def large_store(server: Server, count: int = 100) -> bytes:
+    """Makes a trace whose answer has this number of spans with a long operation each, and returns that answer."""
     with server.client() as client:
         for _ in range(count):
             client.ask(post(1, operation="o" * 50_000), 202)
         return client.ask(get("/api/traces/1"), 200).body
 
 
-def slow_readers():
+def slow_readers() -> None:
     """Clients that don't read their answers hold no worker, and get them whole later."""
     with Server("--port", 0, "--workers", 2) as server, contextlib.ExitStack() as stack:
         whole = large_store(server)
@@ -496,8 +527,8 @@ def slow_readers():
                 check(client.response().body == whole, "the answer that was read late is another one")
 
 
-def many_spans(server, count=200_000):
-    """A store of this number of traces with a span each, in bodies of a thousand."""
+def many_spans(server: Server, count: int = 200_000) -> None:
+    """Fills a store with this number of traces with a span each, in bodies of a thousand."""
     with server.client() as client:
         for first in range(1, count, 1000):
             client.ask(post_body(wire.batch("many", [wire.span(first + k, 1) for k in range(1000)])), 202)
@@ -506,13 +537,14 @@ def many_spans(server, count=200_000):
 class Counting(threading.Thread):
     """Asks for all traces of `many_spans`, and counts the bytes of the answer as fast as they come."""
 
-    def __init__(self, client):
+    def __init__(self, client: Client) -> None:
         super().__init__()
         self.client = client
-        self.taken, self.size, self.ended = 0, None, False
+        self.taken, self.size, self.ended = 0, 0, False
         self.start()
 
-    def run(self):
+    def run(self) -> None:
+        """Asks and counts."""
         self.client.send(get("/api/traces?service=many&limit=0"))
         head = b""
         while b"\r\n\r\n" not in head:
@@ -531,8 +563,8 @@ class Counting(threading.Thread):
 ROOM_FOR_MANY = ["--batches", 1000, "--spans", 200_000]
 
 
-def quick_reader():
-    """A client that takes a large answer as fast as it comes: the one worker answers another client before that answer ends."""
+def quick_reader() -> str:
+    """Checks that while a client takes a large answer as fast as it comes, the one worker answers another client before that answer ends."""
     with Server("--port", 0, "--workers", 1, *ROOM_FOR_MANY) as server, server.client() as quick, server.client() as other:
         other.ask(get("/api/x"), 404)
         many_spans(server)
@@ -547,9 +579,9 @@ def quick_reader():
         return f"answered after {taken:,} of {reader.size:,} bytes"
 
 
-def store_with_long_names(server, count=300):
-    """A store in which each kind of answer is long: services that each call the next, and operations of one service."""
-    def name(kind, number):
+def store_with_long_names(server: Server, count: int = 300) -> None:
+    """Fills a store so that each kind of answer is long: services that each call the next, and operations of one service."""
+    def name(kind: str, number: int) -> str:
         return f"{kind}{number % count}" + "-" * 2000
 
     with server.client() as client:
@@ -562,8 +594,8 @@ def store_with_long_names(server, count=300):
         client.ask(post_body(wire.batch("late", [wire.span(6000, 1, start=LATE)])), 202)
 
 
-def each_kind_read_slowly():
-    """Each kind of answer is given out whole, as it was when it was asked for, to a client that reads it slowly while batches come."""
+def each_kind_read_slowly() -> None:
+    """Checks that a client that reads slowly while batches come gets each kind of answer whole, as it was when it was asked for."""
     asked = ["/api/traces/1388", "/api/traces?service=many&limit=0&start=0&end=100000", "/api/services", "/api/services/many/operations",
              "/api/operations?service=many", "/api/dependencies?endTs=100&lookback=100"]
     with Server("--port", 0, "--workers", 2, "--batches", 10_000) as server, contextlib.ExitStack() as stack:
@@ -582,8 +614,8 @@ def each_kind_read_slowly():
             check(client.response().body == body, f"the answer to {target} that was read slowly is another one")
 
 
-def byte_at_a_time():
-    """A response that is taken a byte at a time, while the one worker answers others."""
+def byte_at_a_time() -> None:
+    """Checks a response that is taken a byte at a time, while the one worker answers others."""
     with Server("--port", 0, "--workers", 1) as server, server.client(room=1024) as slow, server.client() as quick:
         whole = large_store(server)
         slow.send(get("/api/traces/1") + get("/api/services"))
@@ -595,8 +627,8 @@ def byte_at_a_time():
         check(slow.response().status == 200, "the request behind it was not answered")
 
 
-def read_late(request, responses):
-    """A client that asks for much, says that it sends no more, and reads late."""
+def read_late(request: bytes, responses: int) -> None:
+    """Checks a client that asks for much, says that it sends no more, and reads late."""
     with Server("--port", 0, "--workers", 1) as server, server.client(room=4096) as client:
         whole = large_store(server)
         client.send(request)
@@ -609,7 +641,7 @@ def read_late(request, responses):
         check(client.reads_end() == b"", "something follows the last response")
 
 
-def goes_away_while_answered(leave):
+def goes_away_while_answered(leave: Callable[[Client], None]) -> None:
     """Clients that go while their answers wait; the server goes on."""
     with Server("--port", 0, "--workers", 1) as server:
         whole = large_store(server)
@@ -622,8 +654,8 @@ def goes_away_while_answered(leave):
             check(client.ask(get("/api/traces/1"), 200).body == whole, "the answer is another one")
 
 
-def silent_reader():
-    """A client that takes nothing of its response for --idle seconds is closed."""
+def silent_reader() -> None:
+    """Checks that a client that takes nothing of its response for --idle seconds is closed."""
     with Server("--port", 0, "--workers", 1, "--idle", 1) as server, server.client(room=4096) as client:
         whole = large_store(server)
         client.send(get("/api/traces/1"))
@@ -635,7 +667,8 @@ def silent_reader():
         check(len(got) < len(whole), "the whole answer came")
 
 
-def seen_elsewhere():
+def seen_elsewhere() -> None:
+    """Checks that a batch that was acknowledged here is found there."""
     with Server("--port", 0, "--workers", 4) as server, server.client() as early, server.client() as writer:
         early.ask(get("/api/traces/1"), 404)
         for trace in range(1, 101):
@@ -645,7 +678,8 @@ def seen_elsewhere():
                 found(late, trace)
 
 
-def reset_at_once():
+def reset_at_once() -> None:
+    """Checks that clients that reset right after connecting do no harm."""
     with Server("--port", 0, "--workers", 2, "--sessions", 12) as server:
         with server.client() as client:
             client.ask(post(1), 202)
@@ -657,7 +691,8 @@ def reset_at_once():
         server.served(12, 1)
 
 
-def closed_at_once():
+def closed_at_once() -> None:
+    """Checks that clients that close right after connecting do no harm."""
     with Server("--port", 0, "--workers", 2, "--sessions", 11) as server:
         for _ in range(10):
             server.client().socket.close()
@@ -666,15 +701,16 @@ def closed_at_once():
         server.served(11, 1)
 
 
-def stop(server, seconds):
+def stop(server: Server, seconds: float) -> None:
+    """Stops a server for these seconds, and lets it go on."""
     server.run.send_signal(signal.SIGSTOP)
     time.sleep(seconds)
     server.run.send_signal(signal.SIGCONT)
     time.sleep(0.1)
 
 
-def many_at_once():
-    """500 clients that connect and post while the server is stopped are all answered when it goes on."""
+def many_at_once() -> None:
+    """Checks that 500 clients that connect and post while the server is stopped are all answered when it goes on."""
     with Server("--port", 0, "--workers", 2) as server:
         server.run.send_signal(signal.SIGSTOP)
         clients = [Client(server.port) for _ in range(500)]
@@ -688,8 +724,8 @@ def many_at_once():
             client.socket.close()
 
 
-def a_long_answer():
-    """While its one worker makes an answer for longer than `--idle`, nobody counts as silent: not the client that asked, nor another one."""
+def a_long_answer() -> None:
+    """Checks that while the one worker makes an answer for longer than `--idle`, neither the client that asked nor another one counts as silent."""
     count = 1_000_000
     with Server("--port", 0, "--workers", 1, "--idle", 2, "--batches", 1000, "--spans", count) as server:
         many_spans(server, count)
@@ -704,7 +740,8 @@ def a_long_answer():
             check(reader.ended, f"the long answer was cut after {reader.taken:,} of {reader.size:,} bytes")
 
 
-def stopped_and_continued(idle):
+def stopped_and_continued(idle: int) -> None:
+    """Checks that a server that is stopped now and then loses nothing."""
     with Server("--port", 0, "--workers", 2, "--idle", idle, "--sessions", 2) as server:
         stop(server, 0.2)
         with server.client() as client:
@@ -729,22 +766,23 @@ def stopped_and_continued(idle):
         server.served(2, 2)
 
 
-def told_since(server, known):
-    """What it has told since these lines; each is written before the response that it goes with."""
+def told_since(server: Server, known: list[str]) -> list[str]:
+    """Returns what it has told since these lines; each is written before the response that it goes with."""
     return server.told()[len(known):]
 
 
-def told_of_taken(server):
-    """Its lines that say that all connections are taken."""
+def told_of_taken(server: Server) -> list[str]:
+    """Returns its lines that say that all connections are taken."""
     return [line for line in server.told() if line.startswith(ALL_TAKEN)]
 
 
-def spans_of(trace, count):
+def spans_of(trace: int, count: int) -> bytes:
+    """Returns a request that hands in this number of spans of a trace."""
     return post_body(wire.batch("shop", [wire.span(trace, number) for number in range(1, count + 1)]))
 
 
-def told_at_the_start():
-    """The lines that docs/operating.md has, to the letter; with a host that others reach, the one about it comes first."""
+def told_at_the_start() -> None:
+    """Checks the lines that docs/operating.md has, to the letter; with a host that others reach, the one about it comes first."""
     exposed = "takes connections from other machines: anyone who reaches it may read all traces and send spans, with no password and no TLS"
     size = "that may take 42 MB with one tag a span, 71 MB with five; more if tags are long, up to 8 times with one span a batch and twenty process tags"
     held = "holds at most 1000 batches and 100000 spans, and shows"
@@ -755,8 +793,8 @@ def told_at_the_start():
             check(server.told() == wanted, f"at the start it told {server.told()}")
 
 
-def told_of_few_files():
-    """It warns below one file for each connection, one for each worker and 4 more; with these it has enough."""
+def told_of_few_files() -> None:
+    """Checks that it warns below one file for each connection, one for each worker and 4 more, and has enough with these."""
     with Server("--port", 0, files=256) as server, server.client() as client:
         client.ask(get("/api/services"), 200)
         wanted = "the system lets 256 files be open (ulimit -n), and --connections 1024 needs 1032: raise it, or give fewer"
@@ -768,8 +806,8 @@ def told_of_few_files():
         check(not more, f"with a file for all that it may open it told {more}")
 
 
-def told_why_it_cannot_start():
-    """Less address space than the store needs, and less than a thread needs."""
+def told_why_it_cannot_start() -> None:
+    """Checks what is told with less address space than the store needs, and with less than a thread needs."""
     largest = ("--batches", 1_000_000, "--spans", 10_000_000)
     for words, space, wanted in ((largest, 1 << 30, "no memory for a store with these limits: give smaller ones"),
                                  ((), 6 << 20, "no thread can be made")):
@@ -780,7 +818,8 @@ def told_why_it_cannot_start():
         check(told == [f"ends with status 5: {wanted}"], f"with {space} bytes it told {told}")
 
 
-def told_how_full():
+def told_how_full() -> None:
+    """Checks what is told as the batches come near their limit."""
     with Server("--port", 0, "--workers", 2, "--batches", 10, "--spans", 1000) as server, server.client() as client:
         client.ask(get("/api/services"), 200)
         begin = server.told()
@@ -791,7 +830,8 @@ def told_how_full():
         check(told_since(server, begin) == wanted, f"up to 10 of 10 batches it told {told_since(server, begin)}")
 
 
-def told_of_spans():
+def told_of_spans() -> None:
+    """Checks what is told as the spans come near their limit."""
     with Server("--port", 0, "--workers", 2, "--batches", 1000, "--spans", 100) as server, server.client() as client:
         client.ask(get("/api/services"), 200)
         begin = server.told()
@@ -801,8 +841,8 @@ def told_of_spans():
         check(told_since(server, begin) == wanted, f"up to 95 of 100 spans it told {told_since(server, begin)}")
 
 
-def told_a_repeat_once():
-    """A batch that is sent again is held once."""
+def told_a_repeat_once() -> None:
+    """Checks that a batch that is sent again is held once."""
     body = post_body(wire.batch("shop", [wire.span(1, 7)], number=4))
     with Server("--port", 0, "--workers", 2, "--batches", 2) as server, server.client() as client:
         begin = server.told()
@@ -812,7 +852,8 @@ def told_a_repeat_once():
         check(told == ["at least 50% full: 1 of 2 batches (--batches)"], f"for one batch sent three times it told {told} after {begin}")
 
 
-def told_that_it_is_full():
+def told_that_it_is_full() -> None:
+    """Checks what is told of batches that don't fit."""
     with Server("--port", 0, "--workers", 1, "--batches", 2, "--spans", 10) as server, server.client() as client:
         client.ask(spans_of(1, 9), 202)
         begin = server.told()
@@ -832,8 +873,8 @@ def told_that_it_is_full():
         check(told_since(server, begin) == wanted, f"it told {told_since(server, begin)}")
 
 
-def told_that_all_are_taken():
-    """The other worker may tell it once the first client has the one connection, before the second one waits."""
+def told_that_all_are_taken() -> None:
+    """Checks the line that all connections are taken, which the other worker may tell before the second client waits."""
     with Server("--port", 0, "--workers", 2, "--connections", 1) as server:
         with server.client() as first, server.client() as second:
             first.ask(get("/api/services"), 200)
@@ -848,7 +889,8 @@ def told_that_all_are_taken():
         check(told == [wanted], f"it told {told}")
 
 
-def told_what_is_counted():
+def told_what_is_counted() -> None:
+    """Checks the lines of `--report`."""
     with Server("--port", 0, "--workers", 2, "--batches", 2, "--report", 1, "--sessions", 1) as server:
         with server.client() as client:
             for trace, status in ((1, 202), (2, 202), (3, 503)):
@@ -861,13 +903,15 @@ def told_what_is_counted():
         check(counted[-1] == "2 of 2 batches and 2 of 100000 spans held, 2 acknowledged, 1 queries, 1 refused 20", f"it told {counted[-1]!r}")
 
 
-def told_nothing_unless_asked():
+def told_nothing_unless_asked() -> None:
+    """Checks that no counts are told without `--report`."""
     with Server("--port", 0, "--workers", 1) as server:
         time.sleep(1.5)
         check(not any(" held, " in line for line in server.told()), f"without --report it told {server.told()}")
 
 
-def told_why_it_ends():
+def told_why_it_ends() -> None:
+    """Checks what is told last."""
     with Server("--port", 0, "--workers", 1) as server:
         time.sleep(0.2)
         server.shut_listener()
@@ -875,7 +919,7 @@ def told_why_it_ends():
         check(status == 4, f"the status is {status}")
         check(server.told()[-1] == "ends with status 4: a worker could accept no more connections", f"it told {server.told()}")
     with Server("--port", 0, "--workers", 1, "--sessions", 1) as server:
-        server.run.stdout.close()
+        server.stdout.close()
         with server.client() as client:
             client.ask(post(1), 202)
         status = server.run.wait(PATIENCE)
@@ -883,7 +927,7 @@ def told_why_it_ends():
         check(server.told()[-1] == "ends with status 4: the output failed", f"it told {server.told()}")
 
 
-CASES = {
+CASES: Mapping[str, Callable[[], str | None]] = {
     "8 clients at once, 8 workers": lambda: eight_clients(8),
     "8 clients at once, 2 workers": lambda: eight_clients(2),
     "clients that stall in a head": stalled_heads,
@@ -949,7 +993,8 @@ CASES = {
 }
 
 
-def main():
+def main() -> None:
+    """Runs the cases."""
     asked = asked_of(__doc__)
     asked.add_argument("--only", default="", help="the cases whose name has this word")
     options = asked.parse_args()

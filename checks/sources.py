@@ -1,5 +1,6 @@
 """Reads the items of a crate's .rt files: types, traits, functions and their clauses, as `rt fmt` lays them out."""
 import re
+from collections.abc import Iterator
 from pathlib import Path
 from typing import NamedTuple
 
@@ -30,29 +31,31 @@ class Item(NamedTuple):
     trait: str
     visible: str
     doc: str
-    marks: tuple
+    marks: tuple[str, ...]
     text: str
-    clauses: tuple
+    clauses: tuple[Clause, ...]
 
 
 class Module(NamedTuple):
     """A module with its items, in the order of its file."""
 
-    path: tuple
+    path: tuple[str, ...]
     file: Path
     public: bool
     doc: str
-    items: list
+    items: list[Item]
 
 
-def one_line(text):
+def one_line(text: str) -> str:
     """Joins the lines of a text by single spaces."""
     return " ".join(text.split())
 
 
-def head_of(text):
+def head_of(text: str) -> tuple[str, list[Clause], int]:
     """Splits a function's text into its signature, its clauses, and where its body begins."""
-    clauses, signature, last, open_ones, start = [], None, 0, [], 0
+    clauses: list[Clause] = []
+    open_ones: list[str] = []
+    signature, last, start, found = "", 0, 0, None
     for it in MARK.finditer(text):
         mark, at = it[0], it.start()
         if mark in PAIRS:
@@ -64,7 +67,7 @@ def head_of(text):
             open_ones.append(PAIRS[mark])
         elif open_ones and mark == open_ones[-1]:
             open_ones.pop()
-            if mark == "}" and not open_ones:
+            if mark == "}" and not open_ones and found:
                 clauses.append(Clause(found[1], found[2], one_line(text[start:at])))
                 last = at
         elif mark == ";" and not open_ones:
@@ -72,7 +75,7 @@ def head_of(text):
     return signature or text, clauses, len(text)
 
 
-def function_end(lines, at, indent):
+def function_end(lines: list[str], at: int, indent: str) -> int:
     """Returns the index of the last line of the function that begins at a line."""
     text = "\n".join(lines[at : at + 100])
     _, _, end = head_of(text)
@@ -80,12 +83,12 @@ def function_end(lines, at, indent):
     return head_end if text[end : end + 1] == ";" or text[end : end + 2] == "{}" else block_end(lines, head_end, indent)
 
 
-def value_end(lines, at, _):
+def value_end(lines: list[str], at: int, _: str) -> int:
     """Returns the index of the last line of the constant or the alias that begins at a line."""
     return next((here for here in range(at, len(lines)) if lines[here].rstrip().endswith(";")), at)
 
 
-def block_end(lines, at, indent):
+def block_end(lines: list[str], at: int, indent: str) -> int:
     """Returns the index of the last line of the type, trait, impl or body that begins at a line."""
     for here in range(at, len(lines)):
         line = lines[here]
@@ -98,16 +101,22 @@ def block_end(lines, at, indent):
 ENDS = {"fn": function_end, "const": value_end, "type": value_end, "mod": value_end}
 
 
-def named(kind, rest):
+def first_of(pattern: str, text: str) -> str:
+    """Returns the first group of a pattern with which a text begins, or nothing."""
+    found = re.match(pattern, text)
+    return found[1] if found else ""
+
+
+def named(kind: str, rest: str) -> tuple[str, str]:
     """Returns the name, and the trait if it is an impl of one."""
     if kind != "impl":
-        return re.match(r"\s*(\w+)", rest)[1], ""
+        return first_of(r"\s*(\w+)", rest), ""
     rest = re.sub(r"^<[^{]*?>\s(?=\w)", "", rest.strip()) if rest.startswith("<") else rest.strip()
     trait, _, kept = rest.partition(" for ")
-    return (re.match(r"&?(?:mut )?(?:\w+::)*(\w+)", kept or trait) or [0, ""])[1], trait if kept else ""
+    return first_of(r"&?(?:mut )?(?:\w+::)*(\w+)", kept or trait), trait if kept else ""
 
 
-def items_of(lines, owner="", trait="", inside="", visible=""):
+def items_of(lines: list[str], owner: str = "", trait: str = "", inside: str = "", visible: str = "") -> Iterator[Item]:
     """Yields the items of these lines, and of each impl and trait what is in it."""
     doc, marks, at = [], [], 0
     while at < len(lines):
@@ -122,7 +131,7 @@ def items_of(lines, owner="", trait="", inside="", visible=""):
             kind, (name, of_trait) = found[3], named(found[3], found[4])
             end = ENDS.get(kind, block_end)(lines, at, inside)
             text = "\n".join(re.sub("^" + inside, "", it) for it in lines[at : end + 1])
-            signature, clauses, _ = head_of(text) if kind == "fn" else (text, (), 0)
+            signature, clauses, _ = head_of(text) if kind == "fn" else (text, [], 0)
             seen = (found[2] or "").strip() or visible
             said = "\n".join(doc), tuple(marks), signature.rstrip(), tuple(clauses)
             yield Item(kind, name, owner, trait or of_trait, seen, *said)
@@ -135,18 +144,18 @@ def items_of(lines, owner="", trait="", inside="", visible=""):
         at += 1
 
 
-def file_of(crate, path):
+def file_of(crate: str, path: tuple[str, ...]) -> Path:
     """Returns the file of a module of the crate."""
     source = CRATES / crate / "src"
     return source.joinpath(*path).with_suffix(".rt") if path else source / "lib.rt"
 
 
-def modules(crate):
+def modules(crate: str) -> Iterator[Module]:
     """Yields the modules of a crate: the root, then each in the order in which it is declared."""
     yield from modules_below(crate, (), True)
 
 
-def modules_below(crate, path, public):
+def modules_below(crate: str, path: tuple[str, ...], public: bool) -> Iterator[Module]:
     """Yields a module and those below it."""
     file = file_of(crate, path)
     if not path and not file.exists():
@@ -162,7 +171,7 @@ def modules_below(crate, path, public):
             yield from modules_below(crate, (*path, it.name), public and it.visible == "pub")
 
 
-def exported(crate):
+def exported(crate: str) -> set[str]:
     """Returns the names that the crate's root gives out by `pub use`."""
     names = set()
     root = file_of(crate, ())

@@ -16,7 +16,7 @@ LINE = re.compile(r"(?:rt: )?must-fail \S+/(\S+\.edit): (refused|NOT REFUSED|BAD
 LITTLE = re.compile(r"(?:rt: )?must-fail \S+/(\S+\.edit): refused, as it must be \(only ")
 
 
-def copy(room, name):
+def copy(room: pathlib.Path, name: str) -> None:
     """Copies the repository's crates, with what earlier checks kept of this crate and those below it."""
     kept = below([name], lists())
     for crate in sorted(path for path in (TOP / "crates").iterdir() if path.is_dir()):
@@ -26,9 +26,10 @@ def copy(room, name):
         shutil.copy2(TOP / file, room / file)
 
 
-def put_edits(room, name, only):
+def put_edits(room: pathlib.Path, name: str, only: str) -> list[str]:
     """Puts the crate's edits whose name has the word into the copy, and returns their names."""
-    there, names = room / "crates" / name / "must-fail", []
+    there = room / "crates" / name / "must-fail"
+    names: list[str] = []
     there.mkdir()
     for folder in (TOP / "crates" / name / "must-fail", TOP / "wrong-bodies" / name):
         for edit in sorted(folder.glob("*.edit")):
@@ -41,12 +42,12 @@ def put_edits(room, name, only):
     return names
 
 
-def try_all(room, name):
+def try_all(room: pathlib.Path, name: str) -> tuple[int, dict[str, str]]:
     """Runs rt must-fail, prints what it says as it comes, and returns its status and each edit's outcome."""
-    found = {}
+    found: dict[str, str] = {}
     with subprocess.Popen(["rt", "must-fail", name], cwd=room, stdin=subprocess.DEVNULL, stdout=subprocess.PIPE,
                           stderr=subprocess.STDOUT, text=True, errors="replace") as ran:
-        for line in ran.stdout:
+        for line in ran.stdout or ():
             print(line, end="", flush=True)
             if little := LITTLE.match(line):
                 print(f"shows little of the contract: {little[1]}", flush=True)
@@ -56,9 +57,9 @@ def try_all(room, name):
     return ran.returncode, found
 
 
-def report(names, found, status):
+def report(names: list[str], found: dict[str, str], status: int) -> int:
     """Prints the edits that were not refused, and the counts; returns the exit status."""
-    kinds = {"refused": [], "NOT REFUSED": [], "BAD EDIT": [], "NOT TRIED": []}
+    kinds: dict[str, list[str]] = {"refused": [], "NOT REFUSED": [], "BAD EDIT": [], "NOT TRIED": []}
     for edit in names:
         kinds[found.get(edit, "NOT TRIED")].append(edit)
     print()
@@ -69,7 +70,7 @@ def report(names, found, status):
     return 0 if status == 0 and len(kinds["refused"]) == len(names) else 1
 
 
-def main():
+def main() -> int:
     """Tries the edits of the crate that is named."""
     words = asked_of(__doc__, None)
     words.add_argument("crate")
@@ -83,7 +84,8 @@ def main():
         names = put_edits(room, asked.crate, asked.only)
         if not names:
             sys.exit(f"{asked.crate} has no such edit")
-        return report(names, *reversed(try_all(room, asked.crate)))
+        status, found = try_all(room, asked.crate)
+        return report(names, found, status)
 
 
 if __name__ == "__main__":

@@ -1,6 +1,6 @@
 #!/bin/sh
-# A restart by a second server, without a pause: docs/recipes.md has each step and its reason. Copy it to
-# /usr/local/sbin/jaeger_one_switch (mode 755), and run it as root, by hand or by cron:
+# A restart by a second server, without a pause: docs/operating.md, Restart and upgrade, has each step and its reason. Copy it
+# to /usr/local/sbin/jaeger_one_switch (mode 755), and run it as root, by hand or by cron:
 #
 #   jaeger_one_switch FOLDER
 #
@@ -8,16 +8,20 @@
 # one gets the queries too, and the old one ends. No batch is lost of a sender that sends each again until it has a 202.
 # It needs deploy/nginx.conf, the unit deploy/jaeger_one.service without RuntimeMaxSec=, --traces and files beside it
 # (systemctl edit), senders that send to nginx alone, ports 14268 and 14269, memory for two stores, curl and Python 3, and
-# no connection to another site of this nginx that lasts for more than ten minutes. It ends with 0 if all was done; else a
-# line says what was, and which server has what.
+# no connection to another site of this nginx that lasts for more than ten minutes. It ends with 0 if all was done; else with 1,
+# and a line says what was, and which server has what.
 set -eu
 PATH=/usr/sbin:/usr/bin:/sbin:/bin
 
 conf=/etc/nginx/conf.d/jaeger_one.conf
 units=/etc/systemd/system
+pid=/run/nginx.pid
+lock=/run/jaeger_one_switch.lock
 patience=600  # seconds for nginx's old workers to end, which serve what began before
 
 fail() { echo "jaeger_one_switch: $*" >&2; exit 1; }
+
+is_readable() { [ -f "$1" ] && [ -r "$1" ]; }
 
 port_of() { sed -n "/^upstream jaeger_one_$1 /,/^}/s/^ *server 127\.0\.0\.1:\([0-9]*\);.*/\1/p" $conf; }
 
@@ -26,7 +30,7 @@ property() { systemctl show -p "$1" --value $2; }
 # Has nginx send batches (send) or queries (read) to another port, and waits until all workers that it had are gone: only
 # then none of them sends to the old port. 1: nginx refuses the change, and goes on as before. 2: an old worker is there.
 move() {
-    workers=$(echo $(ps -o pid= --ppid "$(cat /run/nginx.pid)"))
+    workers=$(echo $(ps -o pid= --ppid "$(cat $pid)"))
     [ -n "$workers" ] || return 1
     cp $conf $conf.before && sed -i "/^upstream jaeger_one_$1 /,/^}/s/:$2;/:$3;/" $conf || return 1
     if ! nginx -t -q || ! nginx -s reload; then
@@ -53,9 +57,14 @@ undo() {
 }
 
 [ $# = 1 ] && [ -d "$1" ] || fail "give the folder for exports"
-exports=$(realpath "$1")
-exec 9> /run/jaeger_one_switch.lock
+exports=$(realpath "$1") || fail "the folder for exports can't be read: $1"
+# Tried before exec, whose redirection would end the shell with status 2 if it failed.
+true >> $lock || fail "$lock can't be written: run it as root"
+exec 9> $lock
 flock -n 9 || fail "another one runs"
+
+is_readable $conf || fail "nginx's file $conf can't be read"
+is_readable $pid || fail "nginx doesn't run: its file $pid can't be read"
 
 old=$(port_of send)
 [ "$old" = "$(port_of read)" ] || fail "nginx sends batches and queries to different ports: end the last switch by hand"
@@ -64,6 +73,7 @@ case $old in
     14269) new=14268 old_unit=jaeger_one_b new_unit=jaeger_one ;;
     *) fail "nginx sends to port '$old', which is neither 14268 nor 14269" ;;
 esac
+is_readable $units/$old_unit.service || fail "$units/$old_unit.service can't be read"
 systemctl is-active -q $old_unit || fail "$old_unit doesn't run"
 ! systemctl is-active -q $new_unit || fail "$new_unit runs already, and nginx sends it nothing: stop it"
 [ "$(property RuntimeMaxUSec $old_unit)" = infinity ] || fail "$old_unit has a RuntimeMaxSec=, by which it may end before its export"

@@ -11,12 +11,14 @@ import os
 import subprocess
 import sys
 import tempfile
+from collections.abc import Iterator
+from typing import Any
 
 HERE = os.path.dirname(os.path.abspath(__file__))
 
 
-def generated(folder):
-    """The module of the structs of `jaeger.thrift`, as Apache's compiler writes it."""
+def generated(folder: str) -> Any:
+    """Returns the module of the structs of `jaeger.thrift`, as Apache's compiler writes it."""
     subprocess.run(["thrift", "--gen", "py", "-out", folder, os.path.join(HERE, "jaeger.thrift")],
                    check=True, stderr=subprocess.DEVNULL)
     sys.path.insert(0, folder)
@@ -24,7 +26,8 @@ def generated(folder):
     return jaeger.ttypes
 
 
-def spelled(batch):
+def spelled(batch: Any) -> str:
+    """Returns a batch as hexadecimal text."""
     from thrift.protocol.TBinaryProtocol import TBinaryProtocol
     from thrift.transport.TTransport import TMemoryBuffer
     buffer = TMemoryBuffer()
@@ -32,8 +35,8 @@ def spelled(batch):
     return buffer.getvalue().hex()
 
 
-def batches(j):
-    """The batches; samples/README.md says what each holds."""
+def batches(j: Any) -> Iterator[Any]:
+    """Yields the batches, in the order of the lines."""
     yield j.Batch(process=j.Process(serviceName="a"), spans=[], seqNo=1)
 
     yield j.Batch(process=j.Process(serviceName="frontend"), spans=[
@@ -66,7 +69,8 @@ def batches(j):
         stats=j.Statistics(dropped=3, byKind={"full": [1, 2], "late": []}, seen={4}))
 
 
-def main():
+def main() -> None:
+    """Prints a line for each batch."""
     with tempfile.TemporaryDirectory() as folder:
         for batch in batches(generated(folder)):
             print(spelled(batch))

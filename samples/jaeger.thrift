@@ -1,5 +1,5 @@
 // The structs that a body is made of, for Apache Thrift's compiler. Field names and ids are those of the table
-// in docs/wire-format.md; the sender's statistics have a shape of our own, since a reader skips them.
+// in docs/using.md; the sender's statistics have a shape of our own, since a reader skips them.
 
 enum TagType { STRING, DOUBLE, BOOL, LONG, BINARY }
 

@@ -1,4 +1,4 @@
-//! A decoder of batches in plain Rust, by the rules of `docs/wire-format.md` and without proofs: what `plain.rs` measures,
+//! A decoder of batches in plain Rust, by the rules of `docs/using.md` ("The wire format") and without proofs: what `plain.rs` measures,
 //! and what `scan.rs` and `bench/plain_server.rs` take their batches by.
 #![allow(dead_code)]
 
