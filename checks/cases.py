@@ -1,7 +1,7 @@
 #!/usr/bin/env python3
 """Runs the cases of cases/ by `rt try`, with one build and no proof.
 
-    checks/cases.py [FOLDER..]    these folders of cases/, all of them if none is named
+    checks/cases.py [FOLDER..]    these folders of cases/; if none is named, all of them and what README.md shows
 
 Each case's output is compared by `rt try --cases`, and its exit status with cases/statuses.txt (0 if the
 case isn't there). A line is printed for each case that fails, then `N passed, M failed`; the exit
@@ -18,6 +18,7 @@ from pathlib import Path
 from typing import NamedTuple
 
 from crates import asked_of
+from readme_runs import readme_runs
 
 TOP = Path(__file__).resolve().parent.parent
 CASES = TOP / "cases"
@@ -77,6 +78,17 @@ def gather_runs(subject: str, room: str) -> dict[str, str]:
     return names
 
 
+def gather_readme(room: str) -> dict[str, str]:
+    """Writes what README.md says that the program prints as cases. Returns each one's name by its file's."""
+    names = {}
+    for run in readme_runs():
+        flat = f"readme-{run.name}"
+        names[flat] = f"README.md {run.name}"
+        for ending, content in zip(ENDINGS, (run.stdin, "".join(f"{it}\n" for it in run.arguments).encode(), run.stdout)):
+            Path(f"{room}/{flat}{ending}").write_bytes(content)
+    return names
+
+
 def gather(subjects: list[str], room: str) -> dict[str, str]:
     """Copies the cases into one folder, as one build takes them. Returns each one's name by its file's."""
     names = {}
@@ -117,13 +129,16 @@ def main() -> int:
     asked = asked_of(__doc__, None)
     folders = sorted(it.name for it in CASES.iterdir() if it.is_dir())
     asked.add_argument("folders", nargs="*", metavar="FOLDER", help="folders of cases/; all if none is named")
-    subjects = asked.parse_args().folders or folders
+    named = asked.parse_args().folders
+    subjects = named or folders
     for name in subjects:
         if name not in folders:
             asked.error(f"cases/ has no folder {name}")
     wanted = statuses()
     with tempfile.TemporaryDirectory(prefix="cases-") as room:
         names = gather(subjects, room)
+        if not named:
+            names.update(gather_readme(room))
         said, found = tried(room)
     wrong = {}
     for flat, name in names.items():
