@@ -25,9 +25,6 @@ CASES = TOP / "cases"
 ENDINGS = ("", ".args", ".stdout")
 TRANSCRIPT = ".transcript"
 PROMPT = "$ jaeger_one"
-# `rt try` calls the program `program`, and these texts name it as it was called.
-CALLED = {"Usage: jaeger_one <COMMAND>": "Usage: program <COMMAND>",
-          "'jaeger_one' requires a subcommand": "'program' requires a subcommand"}
 LINE = re.compile(r"case=(\S+) run=(\S+) (?:status=(\d+) )?.*?(?:output=(\S+) )?proved=no")
 
 
@@ -60,8 +57,6 @@ def runs(transcript: Path) -> Iterator[tuple[list[str], str]]:
     starts = [at for at, line in enumerate(lines) if line.startswith(PROMPT)]
     for start, end in zip(starts, [*starts[1:], len(lines)]):
         output = "".join(lines[start + 1:end])
-        for text, called in CALLED.items():
-            output = output.replace(text, called)
         yield lines[start].removeprefix(PROMPT).split(), output
 
 

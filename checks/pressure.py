@@ -113,9 +113,9 @@ def told() -> str:
             for number in range(2, 5):
                 client.ask(post(number), 503)
         full = server.told()[len(begin):]
-        check(len(begin) == 3 and begin[0].startswith("holds at most 1 batches") and begin[2].startswith("at least 90% full: 1 of 1 batches"),
+        check(len(begin) == 3 and begin[0].startswith("holds at most 1 batch and") and begin[2].startswith("at least 90% full: 1 of 1 batch ("),
               f"it began with {begin}")
-        check(len(full) == 1 and full[0].startswith("full: 1 of 1 batches"), f"when it was full it said {full}")
+        check(len(full) == 1 and full[0].startswith("full: 1 of 1 batch and"), f"when it was full it said {full}")
         server.shut_listener()
         status, output = server.ends()
         more = server.told()[len(begin) + len(full):]

@@ -787,6 +787,7 @@ def told_at_the_start() -> None:
     size = "that may take 42 MB with one tag a span, 71 MB with five; more if tags are long, up to 8 times with one span a batch and twenty process tags"
     held = "holds at most 1000 batches and 100000 spans, and shows"
     for words, host, wanted in (((), None, [f"{held} every trace", size]),
+                                (("--traces", 1), None, [f"{held} the newest 1 trace", size]),
                                 (("--traces", 7), "0.0.0.0", [f"0.0.0.0 {exposed}", f"{held} the newest 7 traces", size])):
         with Server("--port", 0, *words, host=host) as server, server.client() as client:
             client.ask(get("/api/services"), 200)
@@ -900,7 +901,7 @@ def told_what_is_counted() -> None:
             counted = [line for line in server.told() if " held, " in line]
         server.served(1, 2, 1)
         check(len(counted) in (2, 3), f"in 2.5 seconds it told {counted}")
-        check(counted[-1] == "2 of 2 batches and 2 of 100000 spans held, 2 acknowledged, 1 queries, 1 refused 20", f"it told {counted[-1]!r}")
+        check(counted[-1] == "2 of 2 batches and 2 of 100000 spans held, 2 acknowledged, 1 query, 1 refused 20", f"it told {counted[-1]!r}")
 
 
 def told_nothing_unless_asked() -> None:

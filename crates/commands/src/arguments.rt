@@ -174,8 +174,11 @@ fn with_subcommand<'a>(
 /// Defines the program with its subcommands, for the texts of help and faults.
 fn program<'a>(alloc: Global) -> Result<clap::Command<'a>, AllocError> {
     let program = clap::Command::new(alloc, "jaeger_one")
+        .bin_name("jaeger_one")?
         .version(VERSION)
-        .about("Collects traces of Jaeger clients and answers queries on them")
+        .about(
+            "Collects traces of Jaeger clients in memory and answers queries on them; nothing is persisted",
+        )
         .after_help("Example:\n  jaeger_one serve --port 14268 --batches 1000000 --spans 2000000")
         .subcommand_required(true);
     let program = with_subcommand(program, get_command(alloc))?;

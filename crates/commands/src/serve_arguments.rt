@@ -132,7 +132,9 @@ pub(crate) fn serve_command<'a>(alloc: Global) -> Result<clap::Command<'a>, Allo
 {
     let command = clap::Command::new(alloc, "serve")
         .bin_name("jaeger_one serve")?
-        .about("Takes batches and answers queries over HTTP")
+        .about(
+            "Takes batches and answers queries over HTTP; traces are kept in memory, and nothing is persisted",
+        )
         .after_help("Example:\n  jaeger_one serve --port 14268 --batches 1000000 --spans 2000000");
     let command = with_serving(alloc, command)?;
     with_limits(alloc, command)
@@ -147,12 +149,14 @@ fn asked_host(matches: &ArgMatches<'_>) -> Option<Host>
     Host::parse(matches.get_str("host")?)
 }
 
-/// Writes that the text names no host, like clap's error for a value that is not among the possible ones.
+/// Writes that the text names no host, like clap's error for a value that is not among the possible ones. The tip is for
+/// host names, which are never resolved.
 fn write_bad_host<W: Write>(writer: &mut W, text: &str) -> io::Result<()> {
     writeln!(
         writer,
         "error: invalid value '{text}' for '--host <ADDRESS>'\n  \
-         [possible values: 127.0.0.1, 0.0.0.0, ::1, ::]\n\n\
+         [possible values: 127.0.0.1, 0.0.0.0, ::1, ::]\n\n  \
+         tip: host names aren't resolved: use '127.0.0.1' for 'localhost'\n\n\
          For more information, try '--help'."
     )
 }

@@ -109,6 +109,7 @@ fn judge_entry<N: StoreName, R: Wait>(
     ensures denied { IfErr result (λ d. IsDenied N.limits recorded d.refusal d.list) }
 {
     let accepted = keeper.history();
+    // The room for the receipt comes first: after the publish a lack of memory could no longer refuse the entry.
     let Ok(room) = Arc::new(alloc, keeper.receipt()) else {
         return Err(Denial {
             refusal: keeper.refusal_without_receipt(&recorded),

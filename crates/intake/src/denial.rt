@@ -7,8 +7,9 @@ use trace_model::Refusal;
 ///
 /// A refusal by the keeper comes with the list by which it judged, a prefix of the store's history. By that list
 /// [`Refusal::Conflict`], [`Refusal::Stale`] and [`Refusal::JournalFull`] are the right refusals of the job's
-/// entry. After [`Refusal::NoMemory`] nothing was added: the list would have taken the entry, or has its batch. After
-/// [`Refusal::Deferred`] the entry was added, or its batch was before, and a later publish shows it.
+/// entry. After [`Refusal::NoMemory`] nothing was added, and after [`Refusal::Deferred`] the entry was added, or its
+/// batch was before, and a later publish shows it. Of these two the list shows only that it would have taken the entry,
+/// or has its batch.
 #[derive(Drop)]
 pub struct Denial<N: StoreName> {
     pub refusal: Refusal,

@@ -29,7 +29,7 @@ pub(crate) struct Shared<N: StoreName> {
     /// Rings when a job was submitted, and when the desk is closed.
     pub(crate) jobs: CachePadded<Bell>,
     /// One for each number that a seat may have: rings when an answer to one of its jobs is stored, and when the clerk
-    /// ends.
+    /// ends. A single bell would wake every waiting thread.
     pub(crate) answer_bells: Vec<CachePadded<Bell>>,
     /// The last receipt that was stored, or the one of the opening.
     pub(crate) last: Mutex<Arc<Receipt<N>>>,

@@ -6,7 +6,8 @@
 //! connection's [`BufferedConnection`], so a client that reads slowly occupies no thread either. It is proved that each
 //! session stays underway from the start of its connection while the connection is open, whatever other sessions do
 //! ([`ConnectionSet::take_turn`]: `underway`). So its pieces add up to what [`http_session::serve_connection`]
-//! promises. That the last piece does so too is its clause `turn`.
+//! promises, from some first state of its store, which no clause names. That the last piece does so too is its clause
+//! `turn`.
 //!
 //! * `nonblocking`: connections whose writes never block.
 //! * `waiting_bytes`: counts of the response bytes that wait.

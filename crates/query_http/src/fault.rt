@@ -41,7 +41,7 @@ impl Parameter {
     }
 }
 
-/// Why a request's target isn't a query. The numbers are those of `docs/refusals.md`; the program prints none of them.
+/// Why a request's target isn't a query. The numbers are those of `docs/using.md` (Refusals); the program prints none of them.
 #[derive(Clone, Copy, Debug, PartialEq, Eq)]
 pub enum QueryFault {
     /// 41 NoPath: no endpoint has this path.

@@ -54,6 +54,7 @@ pub fn open<N: StoreName, R: Wait>(
 {
     let log = CountedLog::new(history);
     let mut passes = Vec::with_capacity(alloc, readers)?;
+    // No search looks into the keeper's journal.
     let Ok(journal) = Journal::without_outlines(alloc, keys, limits) else {
         return without_memory((log, passes));
     };

@@ -1,6 +1,6 @@
 use trace_model::{Answer, Refusal};
 
-/// The outcome of a step.
+/// The outcome of a step. Like a step it has no `Debug`.
 #[derive(Drop)]
 pub enum Outcome {
     /// The job waits, with its seat's next number.

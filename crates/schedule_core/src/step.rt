@@ -1,7 +1,8 @@
 use jaeger_model::Batch;
 use trace_model::Query;
 
-/// The steps of the machine. Seats and readers have the numbers 0 to 63.
+/// The steps of the machine. Seats and readers have the numbers 0 to 63. Nothing prints a step, so it has no `Debug`,
+/// whose proof takes long.
 #[derive(Drop)]
 pub enum Step {
     /// A seat submits a batch.

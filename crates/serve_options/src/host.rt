@@ -20,7 +20,8 @@ pub enum Host {
 }
 
 impl Host {
-    /// Parses the text of a host. Returns `None` for any other text.
+    /// Parses the text of a host. Returns `None` for any other text. (clap's list of possible values would say which of
+    /// them was given by a number that no contract names.)
     pub fn parse(text: &str) -> Option<Host>
         ensures named { IfSome result (λ host. host_text host ≡ text.now) }
         ensures found { (host : HostValue) → host_text host ≡ text.now → IsSome result }

@@ -1,5 +1,5 @@
 //! What a server does with its connections beside their sessions: how many may be open and accepted, and what is left of
-//! one after its session. It has no contracts. `checks/sockets.py` tests most of it over real sockets; docs/tested.md
+//! one after its session. It has no contracts. `checks/sockets.py` tests most of it over real sockets; docs/ASSURANCE.md
 //! says what nothing shows.
 //!
 //! * `loads`: the number of open connections, of each worker and in all.

@@ -1,15 +1,24 @@
 -- The lines about a store that are printed for the operator.
-use Rattle.std.specs.Prelude.{ℕ, ◌++◌, ◌*◌, List, codes, nat_le, if◌then◌else◌}
+use Rattle.std.specs.Prelude.{ℕ, ◌++◌, ◌*◌, List, codes, nat_eq, nat_le, if◌then◌else◌}
 use Rattle.std.specs.Fmt.{decimal}
 use Rattle.trace_model.specs.declared.refusal.Refusal.{Refusal}
 use Rattle.trace_model.specs.RefusalTexts.{refusal_text}
 use Rattle.server_notices.specs.declared.lines.LimitUnit.{LimitUnit}
 use Rattle.server_notices.specs.declared.lines.LimitUnit.TheVariants.{Batches, Spans}
 
+-- the noun for a count: the singular for one
+abbrev pub noun : ℕ → List ℕ → List ℕ → List ℕ
+noun count singular plural = if nat_eq count 1 then singular else plural
+
 -- what a limit counts, which is the name of its option
 abbrev pub unit_name : LimitUnit → List ℕ
 unit_name Batches = codes "batches"
 unit_name Spans = codes "spans"
+
+-- its noun for a count
+abbrev pub unit_noun : LimitUnit → ℕ → List ℕ
+unit_noun Batches count = noun count (codes "batch") (codes "batches")
+unit_noun Spans count = noun count (codes "span") (codes "spans")
 
 -- the greatest of 90, 75 and 50 percent that is reached; 0 below
 abbrev pub level_of : ℕ → ℕ → ℕ
@@ -22,7 +31,7 @@ level_of held most =
 -- 400 of 1000 batches
 abbrev pub held_text : ℕ → ℕ → LimitUnit → List ℕ
 held_text held most unit =
-    decimal held ++ codes " of " ++ decimal most ++ codes " " ++ unit_name unit
+    decimal held ++ codes " of " ++ decimal most ++ codes " " ++ unit_noun unit most
 
 abbrev pub fullness_line : LimitUnit → ℕ → ℕ → ℕ → List ℕ
 fullness_line unit level held most =

@@ -1,5 +1,6 @@
 //! Counts of batches and queries by worker. They are only used for the operator's notices.
 
+use crate::lines::noun;
 use std::alloc::{AllocError, Global};
 use std::fmt;
 use std::sync::atomic::{AtomicU64, Ordering};
@@ -204,7 +205,8 @@ impl fmt::Display for Counts {
     fn fmt<W: fmt::Write>(&self, f: &mut fmt::Formatter<W>) -> fmt::Result {
         let acknowledged = self.acknowledged();
         let queries = self.queries();
-        write!(f, "{acknowledged} acknowledged, {queries} queries")?;
+        let query_noun = noun(queries, "query", "queries");
+        write!(f, "{acknowledged} acknowledged, {queries} {query_noun}")?;
         let refused = self.refused();
         for (refusal, count) in refused.counted() {
             if count > 0 {

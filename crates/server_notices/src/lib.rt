@@ -2,7 +2,7 @@
 //!
 //! A line that can't be written is lost. No answer of the server and no line of its output depends on these counts.
 //!
-//! * `lines`: the texts of the lines about a store and its refusals, and the level of a store.
+//! * `lines`: the texts of the lines about a store and its refusals, the level of a store, and the nouns for counts.
 //! * `notices`: the counts of a server, and the lines that are printed once or at some counts. `counts`: the counts of
 //!   each worker. `held`: the batches and spans that the store holds.
 //! * `periodic`: the periodic line.

@@ -1,10 +1,17 @@
 //! The lines about a store that are printed for the operator, as functions of numbers.
 
 ghost use Rattle.std.specs.Prelude.{◌≡◌};
-ghost use Rattle.server_notices.specs.Lines.{advice, unit_name, level_of};
+ghost use Rattle.server_notices.specs.Lines.{advice, level_of, noun, unit_name, unit_noun};
 
 use std::fmt;
 use trace_model::Refusal;
+
+/// Returns the noun for a count: the singular for one.
+pub(crate) fn noun(count: u64, singular: &'static str, plural: &'static str) -> &'static str
+    ensures { result.now ≡ noun count singular.now plural.now }
+{
+    if count == 1 { singular } else { plural }
+}
 
 /// The unit of a store's limit.
 #[derive(Clone, Copy, Debug)]
@@ -21,6 +28,17 @@ impl LimitUnit {
         match self {
             LimitUnit::Batches => "batches",
             LimitUnit::Spans => "spans",
+        }
+    }
+
+    /// Returns its noun for a count: the singular for one.
+    pub fn noun(self, count: u32) -> &'static str
+        ensures { result.now ≡ unit_noun self count }
+    {
+        let count = u64::from(count);
+        match self {
+            LimitUnit::Batches => noun(count, "batch", "batches"),
+            LimitUnit::Spans => noun(count, "span", "spans"),
         }
     }
 
@@ -68,16 +86,16 @@ impl fmt::Display for FullnessLine {
     ghost output = { λ l. Some (fullness_line l.unit l.level l.held l.most) };
 
     fn fmt<W: fmt::Write>(&self, f: &mut fmt::Formatter<W>) -> fmt::Result {
-        let name = self.unit.name();
         let FullnessLine {
-            unit: _,
+            unit,
             level,
             held,
             most,
         } = *self;
+        let (noun, name) = (unit.noun(most), unit.name());
         write!(
             f,
-            "at least {level}% full: {held} of {most} {name} (--{name})"
+            "at least {level}% full: {held} of {most} {noun} (--{name})"
         )
     }
 }
@@ -97,13 +115,9 @@ impl fmt::Display for HeldText {
     ghost output = { λ t. Some (held_text t.held t.most t.unit) };
 
     fn fmt<W: fmt::Write>(&self, f: &mut fmt::Formatter<W>) -> fmt::Result {
-        let name = self.unit.name();
-        let HeldText {
-            held,
-            most,
-            unit: _,
-        } = *self;
-        write!(f, "{held} of {most} {name}")
+        let HeldText { held, most, unit } = *self;
+        let noun = unit.noun(most);
+        write!(f, "{held} of {most} {noun}")
     }
 }
 

@@ -2,6 +2,7 @@
 
 ghost use Rattle.std.specs.Prelude.{◌≤◌};
 
+use crate::lines::{LimitUnit, noun};
 use libc::types::rlimit;
 use libc::{RLIMIT_NOFILE, getrlimit};
 use serve_options::Host;
@@ -41,12 +42,15 @@ pub fn print_limits<R: Eprint>(rt: &R, limits: &Limits) {
     } = *limits;
     let few = megabytes(spans, BYTES_WITH_ONE_TAG);
     let many = megabytes(spans, BYTES_WITH_FIVE_TAGS);
+    let batch_noun = LimitUnit::Batches.noun(batches);
+    let span_noun = LimitUnit::Spans.noun(spans);
+    let trace_noun = noun(u64::from(traces), "trace", "traces");
     let _lost = match traces {
         0 => eprintln!(rt;
-            "holds at most {batches} batches and {spans} spans, and shows every trace"
+            "holds at most {batches} {batch_noun} and {spans} {span_noun}, and shows every trace"
         ),
         newest => eprintln!(rt;
-            "holds at most {batches} batches and {spans} spans, and shows the newest {newest} traces"
+            "holds at most {batches} {batch_noun} and {spans} {span_noun}, and shows the newest {newest} {trace_noun}"
         ),
     };
     let _lost = eprintln!(rt;

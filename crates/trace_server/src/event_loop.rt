@@ -35,7 +35,8 @@ const CHECK_SECONDS: u64 = 1;
 /// about a tenth of their number in memory.
 const MAX_WAITING_BYTES: usize = 2 << 30;
 
-/// The limit of those of them that are in memory as text.
+/// The limit of those of them that are in memory as text. It has a limit of its own, because one part of an answer may be
+/// a large span.
 const MAX_MADE_BYTES: usize = 256 << 20;
 
 /// The number of milliseconds after which a worker checks whether others have accepted all connections.

@@ -354,6 +354,7 @@ pub fn serve_with<
         config.now.options.workers)
         (traffic_of W.contents W.has_failed output.old output.new) result }
 {
+    // Before the port is announced: without a thread nobody would be served.
     if !can_start(rt) {
         return end_with(rt, RunError::Memory, "no thread can be made");
     }
